@@ -1,0 +1,54 @@
+-- What a call leaves: two answers that the same promise allows are equal, for every operation, and a word says its three numbers. Assumes nothing.
+use mathlib.Core.Path.{_≡_, sym, _∙_}
+use Prim.Native.Nat.{ℕ, _^_, _<_}
+use native.Mathlib.Omega.{arith}
+use mathlib.Core.List.{List}
+use lib.ListN.{length}
+use Rattle.paper.specs.Answers.{Answer, refused, good}
+use Rattle.paper.specs.Operations.{check, start, sheet, step, finish, Pick, packed, inRoom, Reply, Leaves, Only}
+use Rattle.paper.proofs.Picks.{pick-unique}
+
+-- ---- "the three answer numbers packed in one u64"
+pub packed-one : (n p l n′ p′ l′ : ℕ) → p < 2 ^ 16 → l < 2 ^ 32 → p′ < 2 ^ 16 → l′ < 2 ^ 32 →
+    packed n p l ≡ packed n′ p′ l′ → (n ≡ n′) × (p ≡ p′) × (l ≡ l′)
+packed-one n p l n′ p′ l′ hp hl hp′ hl′ e = (omega arith, omega arith, omega arith)
+
+-- ---- one word and one lent output
+reply-unique : (a : Answer (List ℕ)) (w v : ℕ) (before x y : List ℕ) → Reply a w before x → Reply a v before y → (w ≡ v) × (x ≡ y)
+reply-unique (refused n p) w v before x y h i = (h .0 ∙ sym (i .0), h .1 ∙ sym (i .1))
+reply-unique (good b) w v before x y h i = (h .0 ∙ sym (i .0), h .1 ∙ sym (i .1))
+
+abbrev pub OneAllowed : (Answer (List ℕ) → Type 0) → Type 0
+OneAllowed Allowed = (a b : Answer (List ℕ)) → Allowed a → Allowed b → a ≡ b
+
+-- whatever a definition allows, if that is one answer, a call leaves one word and one lent output
+pub leaves-unique : {Allowed : Answer (List ℕ) → Type 0} → OneAllowed Allowed →
+    (w v : ℕ) (before x y : List ℕ) → Leaves Allowed w before x → Leaves Allowed v before y → (w ≡ v) × (x ≡ y)
+leaves-unique one w v before x y h i =
+    let e : i .answer ≡ h .answer = one (i .answer) (h .answer) (i .allowed) (h .allowed) in
+    reply-unique (inRoom (length before) (h .answer)) w v before x y (h .reply) (rw e at (i .reply))
+
+only-one : (c : Answer (List ℕ)) → OneAllowed (Only c)
+only-one c a b h i = h ∙ sym i
+
+-- ---- of the six operations
+abbrev pub OneCall : (Answer (List ℕ) → Type 0) → Type 0
+OneCall Allowed = (w v : ℕ) (before x y : List ℕ) → Leaves Allowed w before x → Leaves Allowed v before y → (w ≡ v) × (x ≡ y)
+
+pub check-unique : (t : List ℕ) → OneCall (Only (check t))
+check-unique t = leaves-unique (only-one (check t))
+
+pub start-unique : (t b : List ℕ) → OneCall (Only (start t b))
+start-unique t b = leaves-unique (only-one (start t b))
+
+pub sheet-unique : (t b g : List ℕ) → OneCall (Only (sheet t b g))
+sheet-unique t b g = leaves-unique (only-one (sheet t b g))
+
+pub pick-call-unique : (t b g : List ℕ) (n : ℕ) → OneCall (Pick t b g n)
+pick-call-unique t b g n = leaves-unique (pick-unique t b g n)
+
+pub step-unique : (t b g ks : List ℕ) → OneCall (Only (step t b g ks))
+step-unique t b g ks = leaves-unique (only-one (step t b g ks))
+
+pub finish-unique : (t b : List ℕ) (a : ℕ) (vs : List ℕ) → OneCall (Only (finish t b a vs))
+finish-unique t b a vs = leaves-unique (only-one (finish t b a vs))

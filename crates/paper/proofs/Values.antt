@@ -1,0 +1,156 @@
+-- "a value (none on control edges)": on a good table an offer has a value exactly on an object edge. Assumes nothing.
+use mathlib.Core.Path.{_≡_, refl, sym, ap, ap₂, _∙_}
+use Prim.Native.Nat.{ℕ, zero, suc, _≤_, _<_}
+use native.Mathlib.Omega.{arith}
+use mathlib.Core.Bool.{Bool, true, false, _&&_, _||_, cond}
+use mathlib.Core.Logic.{⊎-elim}
+use mathlib.Core.List.{List, [], _∷_, _++_}
+use mathlib.Core.Option.{Option, none, some}
+use lib.Dec.{leb, eqb}
+use lib.ListN.{length}
+use borrow.Author.Tests.{eqb-true, eqb-false, leb-true, not-true}
+use Rattle.paper.specs.Lists.{all, any, count, _⇒_}
+use Rattle.paper.specs.Limits.{limits}
+use Rattle.paper.specs.Answers.{good}
+use Rattle.paper.specs.Table.{edges, kind, source, into, out, isInitial, isAction, isDecision, isMerge, isFork, isJoin, isControlNode, isObject, isControl, mayLeave, degreesFine, oneKind, joinFine, tableFine}
+use Rattle.paper.specs.Marking.{Marking, counted}
+use Rattle.paper.specs.Offers.{Offer, first, elem, value, lastEdge, orElse, firsts, offersOn, offers}
+use Rattle.paper.proofs.Bools.{never, and-true, or-true, or-left, or-right, if-true}
+use Rattle.paper.proofs.Members.{In, here, later, append-left, append-right, any-in, all-in, any-count, only, snoc-some}
+use Rattle.paper.proofs.Sameness.{elem-in, on-last}
+use Rattle.paper.proofs.Origins.{Handed, starts, extends, joins, Way, alone, beside, on-none, on-view, in-offers, in-into, out-in}
+use Rattle.paper.proofs.Tables.{table-good, Shape}
+
+abbrev pub isSome : Option ℕ → Bool
+isSome none = false
+isSome (some v) = true
+
+-- ---- kinds
+-- "Control edges leave kinds 1, 2, 8 to 11"
+leaves-first : (k : ℕ) → mayLeave false k ≡ true → isControlNode k ≡ false → isInitial k || isAction k ≡ true
+leaves-first k h c =
+    ⊎-elim (λ a. or-left (isInitial k) (isAction k) a)
+    (λ r. ⊎-elim (λ a. or-right (isInitial k) (isAction k) a)
+    (λ s. let q = any-in (eqb k) (8 ∷ 9 ∷ 10 ∷ 11 ∷ []) s in never (isControlNode k) (ap isControlNode (eqb-true k (q .0) (q .2)) ∙ all-in isControlNode refl (q .1)) c)
+    (or-true (eqb k 2) _ r))
+    (or-true (eqb k 1) _ h)
+
+-- a control node that is no join is a decision, merge or fork
+no-join : (k : ℕ) → isControlNode k ≡ true → isJoin k ≡ false → isDecision k || isMerge k || isFork k ≡ true
+no-join k c d = by (isDecision k) refl (isMerge k) refl (isFork k) refl
+  where
+    by : (a : Bool) → isDecision k ≡ a → (b : Bool) → isMerge k ≡ b → (f : Bool) → isFork k ≡ f → a || b || f ≡ true
+    by true p b q f r = refl
+    by false p true q f r = refl
+    by false p false q true r = refl
+    by false p false q false r =
+        let s = and-true (leb 8 k) _ c in
+        absurd (near (leb-true 8 k (s .0)) (leb-true k 11 (s .1)) (eqb-false k 8 p) (eqb-false k 9 q) (eqb-false k 10 r) (eqb-false k 11 d))
+      where
+        near : 8 ≤ k → k ≤ 11 → (k ≡ 8 → ⊥) → (k ≡ 9 → ⊥) → (k ≡ 10 → ⊥) → (k ≡ 11 → ⊥) → ⊥
+        near a b p q r s = omega arith
+
+one-is : {e : ℕ} {v w : Option ℕ} → first e v ∷ [] ≡ first e w ∷ [] → v ≡ w
+one-is {e} {v} {w} h = cc
+
+module _ (t : List ℕ) (m : Marking) (e : ℕ) where
+  -- a first offer
+  first-value : {v : Option ℕ} → mayLeave (isObject t e) (kind t (source t e)) ≡ true → isControlNode (kind t (source t e)) ≡ false
+      → firsts t m e ≡ first e v ∷ [] → isSome v ≡ isObject t e
+  unfolding firsts counted
+  first-value {v} h c f = by (isObject t e) refl h
+    where
+      old : (vs : List ℕ) → m .stock (source t e) ≡ vs → isObject t e ≡ true → isSome v ≡ true
+      old [] q b = let g : [] ≡ first e v ∷ [] = rw (b, q) at f in snoc-some [] (first e v) g
+      old (w ∷ ws) q b = let g : first e (some w) ∷ [] ≡ first e v ∷ [] = rw (b, q) at f in ap isSome (one-is (sym g))
+
+      counts : (b : Bool) → leb 1 (m .tokens e) ≡ b → isObject t e ≡ false → isInitial (kind t (source t e)) || isAction (kind t (source t e)) ≡ true → isSome v ≡ false
+      counts true q b i = let g : first e none ∷ [] ≡ first e v ∷ [] = rw (b, i, q) at f in ap isSome (one-is (sym g))
+      counts false q b i = let g : [] ≡ first e v ∷ [] = rw (b, i, q) at f in snoc-some [] (first e v) g
+
+      by : (b : Bool) → isObject t e ≡ b → mayLeave b (kind t (source t e)) ≡ true → isSome v ≡ isObject t e
+      by true b h = old (m .stock (source t e)) refl b ∙ sym b
+      by false b h = counts (leb 1 (m .tokens e)) refl b (leaves-first (kind t (source t e)) h c) ∙ sym b
+
+module _ (t : List ℕ) (g : tableFine t limits ≡ good tt) (e : ℕ) (l : e < edges t) where
+  at-source : Shape t (source t e)
+  at-source = let f = table-good t limits g in f .shape (source t e) (f .edge e l .source-fits)
+
+  -- "All edges at a decision, merge or fork have one kind."
+  same-kind : (j : ℕ) → isControlNode (kind t (source t e)) ≡ true → isJoin (kind t (source t e)) ≡ false → In j (into t (source t e)) → isObject t j ≡ isObject t e
+  unfolding oneKind
+  same-kind j c d i =
+      ⊎-elim (λ a. all-in (isObject t) a here-j ∙ sym (all-in (isObject t) a here-e))
+      (λ a. not-true _ (all-in (isControl t) a here-j) ∙ sym (not-true _ (all-in (isControl t) a here-e)))
+      (or-true (all (isObject t) (into t (source t e) ++ out t (source t e))) _ (if-true _ _ (at-source .one-kind) (no-join (kind t (source t e)) c d)))
+    where
+      here-j : In j (into t (source t e) ++ out t (source t e))
+      here-j = append-left (out t (source t e)) i
+
+      here-e : In e (into t (source t e) ++ out t (source t e))
+      here-e = append-right (into t (source t e)) (out-in t l)
+
+  -- "its outgoing edge is object exactly if it has one"
+  join-kind : isJoin (kind t (source t e)) ≡ true → any (isObject t) (into t (source t e)) ≡ isObject t e
+  unfolding joinFine degreesFine
+  join-kind d =
+      let r = and-true (leb (count (isObject t) (into t (source t e))) 1) _ (if-true _ _ (at-source .join) d) in
+      let s = and-true (isDecision (kind t (source t e)) || isFork (kind t (source t e)) ⇒ eqb (length (into t (source t e))) 1 && leb 1 (length (out t (source t e)))) _ (at-source .degrees) in
+      let u = and-true (leb 1 (length (into t (source t e)))) _ (if-true _ _ (s .1) (or-right (isMerge (kind t (source t e))) _ d)) in
+      let o = only (out t (source t e)) (eqb-true (length (out t (source t e))) 1 (u .1)) (out-in t l) in
+      any-count (isObject t) (into t (source t e))
+      ∙ ap (leb 1) (sym (eqb-true _ _ (r .1)) ∙ ap (count (isObject t)) o)
+      ∙ by (isObject t e)
+    where
+      by : (b : Bool) → leb 1 (cond b 1 0) ≡ b
+      by true = refl
+      by false = refl
+
+-- one of the offers taken has a value
+way-value : (t : List ℕ) (on : ℕ → List Offer) → ((j : ℕ) (o : Offer) → j < edges t → In o (on j) → isSome (value o) ≡ isObject t j)
+    → {js : List ℕ} {w : Offer} → ((j : ℕ) → In j js → j < edges t) → Way t on js w → isSome (value w) ≡ any (isObject t) js
+unfolding value
+way-value t on h l (alone {j = j} {o = o} k) = h j o (l j (here refl)) k ∙ by (isObject t j)
+  where
+    by : (b : Bool) → b ≡ b || false
+    by true = refl
+    by false = refl
+way-value t on h l (beside {j = j} {o = o} {w = w} k r c) =
+    by (value o) (value w) ∙ ap₂ _||_ (h j o (l j (here refl)) k) (way-value t on h (λ i z. l i (later z)) r)
+  where
+    by : (v w : Option ℕ) → isSome (orElse v w) ≡ isSome v || isSome w
+    by none w = refl
+    by (some v) w = refl
+
+module _ (t : List ℕ) (goes : ℕ → Option ℕ → Bool) (m : Marking) (g : tableFine t limits ≡ good tt) where
+  pub value-on : (n e : ℕ) {o : Offer} → e < edges t → In o (offersOn t goes m n e) → isSome (value o) ≡ isObject t e
+  unfolding value
+  value-on zero e l k = absurd (on-none t goes m e k)
+  value-on (suc n) e l k = by (on-view t goes m n e k) (λ j o a b. value-on n j a b)
+    where
+      by : {o : Offer} → Handed t m (offersOn t goes m n) e o → ((j : ℕ) (o : Offer) → j < edges t → In o (offersOn t goes m n j) → isSome (value o) ≡ isObject t j)
+          → isSome (value o) ≡ isObject t e
+      by (starts c f) ih = first-value t m e (table-good t limits g .edge e l .may-leave) c f
+      by (extends {j = j} {o = o} c d i u) ih = ih j o (in-into t (source t e) i .0) u ∙ same-kind t g e l j c d i
+      by (joins {w = w} c d v) ih = way-value t (offersOn t goes m n) ih (λ j i. in-into t (source t e) i .0) v ∙ join-kind t g e l d
+
+  -- one on an object edge has a value, one on a control edge has none
+  pub object-value : (n e : ℕ) {o : Offer} → e < edges t → isObject t e ≡ true → In o (offersOn t goes m n e) → (v : ℕ) × (value o ≡ some v)
+  object-value n e {o} l h k = by (value o) refl (value-on n e l k ∙ h)
+    where
+      by : (w : Option ℕ) → value o ≡ w → isSome w ≡ true → (v : ℕ) × (value o ≡ some v)
+      by none q s = never false s refl
+      by (some v) q s = (v, q)
+
+  pub control-value : (n e : ℕ) {o : Offer} → e < edges t → isObject t e ≡ false → In o (offersOn t goes m n e) → value o ≡ none
+  control-value n e {o} l h k = by (value o) refl (value-on n e l k ∙ h)
+    where
+      by : (w : Option ℕ) → value o ≡ w → isSome w ≡ false → value o ≡ none
+      by none q s = q
+      by (some v) q s = never true refl s
+
+  -- so for every offer of the table
+  pub offer-value : (o : Offer) → elem o (offers t goes m) ≡ true → isSome (value o) ≡ isObject t (lastEdge o)
+  offer-value o k =
+      let r = in-offers t goes m (elem-in (offers t goes m) k) in
+      value-on (limits .longestPath) (r .0) (r .1) (r .2) ∙ ap (isObject t) (sym (on-last t goes m (limits .longestPath) (r .0) (r .2)))

@@ -1,0 +1,176 @@
+-- "Operations and their numbers": six ladders of the table's rows, pick as a relation, and what a call leaves. Assumes nothing.
+use Prim.Native.Nat.{ℕ, suc, _+_, _*_, _^_, _<_}
+use mathlib.Core.Path.{_≡_}
+use mathlib.Core.Bool.{Bool, true, false, not, _&&_, _||_, cond}
+use mathlib.Core.List.{List, [], _∷_, _++_}
+use mathlib.Core.Option.{Option, none, some}
+use lib.Dec.{leb, ltb, eqb}
+use lib.ListN.{length, drop}
+use Rattle.paper.specs.Lists.{below, all, any, keep, gather}
+use Rattle.paper.specs.Answers.{Answer, refused, good, _>>=_, need, known, judgedBy}
+use Rattle.paper.specs.Limits.{limits}
+use Rattle.paper.specs.Bytes.{sized, four, valuesRead, eachRead, whole}
+use Rattle.paper.specs.Table.{nodes, edges, kind, owner, upper, source, outputs, isInitial, isAction, isInput, isIncoming, tableFine}
+use Rattle.paper.specs.Marking.{Marking, blank, encode, marking, hasTokens}
+use Rattle.paper.specs.Offers.{Offer, lastEdge, value, paths, sortedPaths, belongs}
+use Rattle.paper.specs.Choices.{Board, board, howMany, taken, takenEnds, rules, acceptable, next, FirstOf}
+
+-- ---- "check: table. Writes nothing."
+unfoldable pub check : List ℕ → Answer (List ℕ)
+check t = do
+  _ ← tableFine t limits
+  good []
+
+-- ---- value lists: per node listed "a count and values" (row 15: "cut, a count over 16, or bytes left")
+unfoldable pub valueLists : List ℕ → List ℕ → Option (List (List ℕ))
+valueLists ps b = whole (eachRead (λ p. valuesRead (limits .mostUpper)) ps b)
+
+-- the list for node n, where ps are the nodes listed
+abbrev pub listFor : ℕ → List ℕ → List (List ℕ) → List ℕ
+listFor n [] vss = []
+listFor n (p ∷ ps) [] = []
+listFor n (p ∷ ps) (vs ∷ vss) = cond (eqb n p) vs (listFor n ps vss)
+
+-- the lists append to their nodes, and each edge that passes gains 1
+unfoldable pub given : (ℕ → Bool) → List ℕ → List (List ℕ) → Marking → Marking
+given gains ps vss m = record {
+  ended = m .ended;
+  runs = m .runs;
+  stock = λ n. m .stock n ++ listFor n ps vss;
+  tokens = λ e. cond (gains e) (suc (m .tokens e)) (m .tokens e);
+}
+
+-- row 16: no "stock over upper, or edge at 255"
+unfoldable pub roomIn : List ℕ → Marking → Bool
+roomIn t m = all (λ n. leb (length (m .stock n)) (upper t n)) (below (nodes t)) && all (λ e. leb (m .tokens e) 255) (below (edges t))
+
+-- ---- "start: table, and per incoming parameter in order a count and values. Initial nodes' edges get count 1, all else is empty."
+unfoldable pub startOf : List ℕ → List ℕ → Answer Marking
+startOf t b = do
+  let ps = keep (λ n. isIncoming (kind t n)) (below (nodes t))
+  vss ← known 15 (valueLists ps b)
+  let m = given (λ e. hasTokens t e && isInitial (kind t (source t e))) ps vss (blank false)
+  _ ← need 16 (roomIn t m)
+  good m
+
+unfoldable pub start : List ℕ → List ℕ → Answer (List ℕ)
+start t b = do
+  _ ← tableFine t limits
+  m ← startOf t b
+  good (encode t m)
+
+-- ---- "sheet: table, marking, guards. Writes length (2), version 1, number of ends, then per end: last edge, 1 or 0 for value or none, 4 value
+-- bytes (zero if none), number of paths, and per path, in sorted order, its length and edges."
+abbrev pub valueBytes : Option ℕ → List ℕ
+valueBytes none = 0 ∷ four 0
+valueBytes (some v) = 1 ∷ four v
+
+unfoldable pub endBytes : Offer → List ℕ
+endBytes o = lastEdge o ∷ valueBytes (value o) ++ (length (paths o) ∷ gather (λ p. length p ∷ p) (sortedPaths o))
+
+unfoldable pub sheetBytes : List Offer → List ℕ
+sheetBytes es = sized (1 ∷ length es ∷ gather endBytes es)
+
+unfoldable pub sheet : List ℕ → List ℕ → List ℕ → Answer (List ℕ)
+sheet t b g = do
+  d ← board t b g
+  good (sheetBytes (d .allEnds))
+
+-- ---- "pick: as sheet, with a node number, or 255 for none named. Writes a choice."
+abbrev pub named : ℕ → Bool
+named n = not (eqb n 255)
+
+-- the choice is acceptable and, if a node is named, has an end of it
+unfoldable pub wanted : Board → ℕ → ℕ → Bool
+wanted d n c = acceptable d c && (not (named n) || any (belongs (d .table) n) (takenEnds d c))
+
+-- row 13: "a node is named and no acceptable choice has an end of it", among all sets of ends
+pub record NoneFor (d : Board) (n : ℕ) : Type 0 where
+  pub is-named : named n ≡ true
+  pub none-wanted : (x : ℕ) → x < 2 ^ howMany d → wanted d n x ≡ false
+
+-- what pick may answer on a board: refused exactly if there is none, otherwise the first
+abbrev pub PickOn : Board → ℕ → Answer (List ℕ) → Type 0
+PickOn d n (refused k p) = (k ≡ 13) × (p ≡ n) × NoneFor d n
+PickOn d n (good ks) = (c : ℕ) × FirstOf (wanted d n) (howMany d) c × (ks ≡ taken d c)
+
+abbrev pub PickIf : Answer Board → ℕ → Answer (List ℕ) → Type 0
+PickIf (refused k p) n a = a ≡ refused k p
+PickIf (good d) n a = PickOn d n a
+
+unfoldable pub Pick : List ℕ → List ℕ → List ℕ → ℕ → Answer (List ℕ) → Type 0
+Pick t b g n a = PickIf (board t b g) n a
+
+-- ---- "step: as sheet, with a choice. Writes the marking." Row 9: "choice not strictly rising, or no such end"
+abbrev pub rising : List ℕ → Bool
+rising [] = true
+rising (x ∷ []) = true
+rising (x ∷ (y ∷ ys)) = ltb x y && rising (y ∷ ys)
+
+abbrev pub choiceOf : List ℕ → ℕ
+choiceOf [] = 0
+choiceOf (k ∷ ks) = 2 ^ k + choiceOf ks
+
+unfoldable pub stepOf : Board → List ℕ → Answer Marking
+stepOf d ks = do
+  _ ← need 9 (rising ks && all (λ k. ltb k (howMany d)) ks)
+  _ ← judgedBy (rules d) (choiceOf ks)
+  good (next d (choiceOf ks))
+
+unfoldable pub step : List ℕ → List ℕ → List ℕ → List ℕ → Answer (List ℕ)
+step t b g ks = do
+  d ← board t b g
+  m ← stepOf d ks
+  good (encode t m)
+
+-- ---- "finish: table, marking, action, and per output pin in order a count and values. Input pins empty, the action is idle, values append, each
+-- outgoing control edge gains 1."
+unfoldable pub idled : List ℕ → ℕ → Marking → Marking
+idled t a m = record {
+  ended = m .ended;
+  tokens = m .tokens;
+  stock = λ n. cond (isInput (kind t n) && eqb (owner t n) a) [] (m .stock n);
+  runs = λ n. not (eqb n a) && m .runs n;
+}
+
+unfoldable pub finishOf : List ℕ → Marking → ℕ → List ℕ → Answer Marking
+finishOf t m a b = do
+  _ ← need 6 (not (m .ended))
+  _ ← need 14 (ltb a (nodes t) && isAction (kind t a) && m .runs a)
+  vss ← known 15 (valueLists (outputs t a) b)
+  let m′ = given (λ e. hasTokens t e && eqb (source t e) a) (outputs t a) vss (idled t a m)
+  _ ← need 16 (roomIn t m′)
+  good m′
+
+unfoldable pub finish : List ℕ → List ℕ → ℕ → List ℕ → Answer (List ℕ)
+finish t b a vs = do
+  _ ← tableFine t limits
+  m ← known 5 (marking t b)
+  m′ ← finishOf t m a vs
+  good (encode t m′)
+
+-- ---- what a call leaves
+-- row 17: "lent output shorter than the reply"
+abbrev pub inRoom : ℕ → Answer (List ℕ) → Answer (List ℕ)
+inRoom room (refused n p) = refused n p
+inRoom room (good b) = cond (leb (length b) room) (good b) (refused 17 0)
+
+-- "the three answer numbers packed in one u64"
+abbrev pub packed : ℕ → ℕ → ℕ → ℕ
+packed refusal place len = refusal * 2 ^ 48 + place * 2 ^ 32 + len
+
+-- the word returned, and the lent output before and after. "A refusal returns length 0 and changes no byte lent. A success changes only the reply's
+-- bytes, at the front."
+abbrev pub Reply : Answer (List ℕ) → ℕ → List ℕ → List ℕ → Type 0
+Reply (refused n p) word before after = (word ≡ packed n p 0) × (after ≡ before)
+Reply (good b) word before after = (word ≡ packed 0 0 (length b)) × (after ≡ b ++ drop (length b) before)
+
+-- the promise of every operation: some answer that its definition allows, cut to the room, is what the word and the bytes say
+pub record Leaves (Allowed : Answer (List ℕ) → Type 0) (word : ℕ) (before after : List ℕ) : Type 0 where
+  pub answer : Answer (List ℕ)
+  pub allowed : Allowed answer
+  pub reply : Reply (inRoom (length before) answer) word before after
+
+-- for all but pick the definition allows one answer
+abbrev pub Only : Answer (List ℕ) → Answer (List ℕ) → Type 0
+Only a b = b ≡ a
