@@ -1,0 +1,2 @@
+-- Laws of the operations' ladders.
+pub mod Ladders

@@ -1,0 +1,319 @@
+-- Laws that the table's code needs: a search that goes up, marks and tallies one edge further, and row 4 by kind of node.
+-- They hold for any numbers of nodes and edges. Assumes nothing.
+use mathlib.Core.Path.{_≡_, refl, sym, ap, ap₂, _∙_}
+use Prim.Native.Nat.{ℕ, zero, suc, _+_, _*_, _-_, _≤_, _<_}
+use native.Mathlib.Omega.{arith}
+use native.Mathlib.Nat.{zero-add, add-zero, add-assoc}
+use native.Mathlib.Numerals.{add-one}
+use mathlib.Core.Bool.{Bool, true, false, not, _&&_, _||_, or-true, or-false, and-true, and-false}
+use mathlib.Core.Logic.{⊎-elim}
+use mathlib.Core.List.{List}
+use mathlib.Core.Option.{none, some}
+use lib.Dec.{leb, eqb}
+use lib.ListN.{length, set, replicate, length-set}
+use lib.Seq.{getD-set-same, getD-set-other}
+use borrow.Author.Tests.{not-false, eqb-true, eqb-false, eq-eqb, ne-eqb}
+use Rattle.paper.specs.Lists.{at, below, any, keep, count, lowest, oneIf}
+use Rattle.paper.specs.Answers.{refused, good}
+use Rattle.paper.specs.Limits.{limits}
+use Rattle.paper.specs.Table.{
+  nodes,
+  edges,
+  kind,
+  owner,
+  lower,
+  isInput,
+  isOutput,
+  frameFine,
+  nodeFine,
+  edgeFine,
+  tableFine,
+  edgeKind,
+  source,
+  target,
+  isObject,
+  isControl,
+  into,
+  out,
+  isControlNode,
+  chain,
+  degreesFine,
+  oneKind,
+  joinFine,
+  actionFine,
+  chainFine,
+  shapeFine,
+}
+use Rattle.paper.proofs.Bools.{and-both, or-left, or-right, iff}
+use Rattle.paper.proofs.Bools.{and-true as and-true-both, or-true as or-true-cases}
+use Rattle.paper.proofs.Lists.{lowest-none, lowest-some, lowest-is, lowest-is-none}
+use Rattle.paper.proofs.Counts.{count-below, count-below-same, any-below, count-keep, length-count}
+use Rattle.paper.proofs.Shapes.{all-object, all-control, pin-owner, chain-over}
+use Rattle.paper.proofs.Tables.{edge-facts, EdgeFields}
+use Rattle.table.specs.declared.Table.{Table}
+use Rattle.table.specs.declared.Degrees.{Degrees}
+use Rattle.table.specs.Reading.{EdgesFine, countsOf, tableRead}
+use Rattle.table.specs.Shape.{Counts, Tallied, Chained, Blank, leadsOn, marked, ofOneKind, splitFine, mergeFine, joinShape, actionShape}
+
+-- ---- the lowest that fails
+module _ (p : ℕ → Bool) (n : ℕ) where
+  pub fails-at : (i : ℕ) → ((k : ℕ) → k < i → p k ≡ true) → p i ≡ false → i < n → lowest (λ k. not (p k)) n ≡ some i
+  fails-at i h e l = lowest-some (λ k. not (p k)) n i (λ k u. ap not (h k u)) (ap not e) l
+
+  pub fails-nowhere : ((k : ℕ) → k < n → p k ≡ true) → lowest (λ k. not (p k)) n ≡ none
+  fails-nowhere h = lowest-none (λ k. not (p k)) n (λ k u. ap not (h k u))
+
+-- ---- marks: one step further
+module _ (q : ℕ → Bool) (f : ℕ → ℕ) (m : List ℕ) (j a : ℕ) where
+  pub marked-more : (q j ≡ true → f j < length m) → at m a ≡ oneIf (any (λ x. q x && eqb (f x) a) (below j))
+      → at (marked m (q j) (f j)) a ≡ oneIf (any (λ x. q x && eqb (f x) a) (below (j + 1)))
+  marked-more inside h =
+      by (q j) (eqb (f j) a) inside refl
+      ∙ ap oneIf (sym (any-below (λ x. q x && eqb (f x) a) j))
+      ∙ ap (λ (n : ℕ). oneIf (any (λ x. q x && eqb (f x) a) (below n))) (sym (add-one j))
+    where
+      by : (b c : Bool) → (b ≡ true → f j < length m) → eqb (f j) a ≡ c
+          → at (marked m b (f j)) a ≡ oneIf (any (λ x. q x && eqb (f x) a) (below j) || b && c)
+      by true true l e =
+          let o = l refl in
+          let v = eqb-true (f j) a e in
+          rw v (getD-set-same m a 1 0 (omega arith) ∙ ap oneIf (sym (or-true (any (λ x. q x && eqb (f x) a) (below j)))))
+      by true false l e =
+          getD-set-other m (f j) a 1 0 (λ v. eqb-false (f j) a e (sym v))
+          ∙ h
+          ∙ ap oneIf (sym (or-false (any (λ x. q x && eqb (f x) a) (below j))))
+      by false c l e = h ∙ ap oneIf (sym (or-false (any (λ x. q x && eqb (f x) a) (below j))))
+
+-- the marks of a pass over the numbers below j, each at f where q passes
+abbrev pub Marks : (ℕ → Bool) → (ℕ → ℕ) → ℕ → List ℕ → Type 0
+Marks q f j m = (a : ℕ) → at m a ≡ oneIf (any (λ x. q x && eqb (f x) a) (below j))
+
+pub marks-more : (q : ℕ → Bool) (f : ℕ → ℕ) (m m′ : List ℕ) (j : ℕ) (b : Bool) (i : ℕ) → m′ ≡ marked m b i → b ≡ q j → i ≡ f j
+    → (q j ≡ true → f j < length m) → Marks q f j m → Marks q f (j + 1) m′
+marks-more q f m m′ j b i e eb ei inside h a = rw (e, eb, ei) (marked-more q f m j a inside (h a))
+
+pub marks-done : (q : ℕ → Bool) (f : ℕ → ℕ) (m : List ℕ) (j n a : ℕ) (b : Bool) → Marks q f j m → j ≡ n
+    → any (λ x. q x && eqb (f x) a) (below n) ≡ b → at m a ≡ oneIf b
+marks-done q f m j n a b h e v = h a ∙ ap oneIf (ap (λ (y : ℕ). any (λ x. q x && eqb (f x) a) (below y)) e ∙ v)
+
+pub marked-length : (m : List ℕ) (b : Bool) (i : ℕ) → length (marked m b i) ≡ length m
+marked-length m true i = length-set m i 1
+marked-length m false i = refl
+
+-- a pin that feeds has an action
+pub feeder-owner : (t : List ℕ) (i : ℕ) → nodeFine t i ≡ true → isInput (kind t i) && leb 1 (lower t i) ≡ true → owner t i < nodes t
+feeder-owner t i h e = pin-owner t i h (or-left (isInput (kind t i)) (isOutput (kind t i)) (and-true-both (isInput (kind t i)) (leb 1 (lower t i)) e .0))
+
+-- ---- tallies: edge j counts in cell c
+abbrev pub hits : List ℕ → ℕ → ℕ → Bool
+hits t c j = eqb (4 * target t j + edgeKind t j) c || eqb (4 * source t j + 2 + edgeKind t j) c
+
+bumped : (cells : List ℕ) (a c : ℕ) → a < length cells → at (set cells a (at cells a + 1)) c ≡ at cells c + oneIf (eqb a c)
+bumped cells a c l = by (eqb a c) refl
+  where
+    by : (b : Bool) → eqb a c ≡ b → at (set cells a (at cells a + 1)) c ≡ at cells c + oneIf b
+    by true e = rw (← eqb-true a c e) (getD-set-same cells a (at cells a + 1) 0 l)
+    by false e = getD-set-other cells a c (at cells a + 1) 0 (λ v. eqb-false a c e (sym v)) ∙ sym (add-zero (at cells c))
+
+either : (a b c : ℕ) → (a ≡ b → ⊥) → oneIf (eqb a c) + oneIf (eqb b c) ≡ oneIf (eqb a c || eqb b c)
+either a b c apart = by (eqb a c) (eqb b c) refl refl
+  where
+    by : (x y : Bool) → eqb a c ≡ x → eqb b c ≡ y → oneIf x + oneIf y ≡ oneIf (x || y)
+    by true true e f = absurd (apart (eqb-true a c e ∙ sym (eqb-true b c f)))
+    by true false e f = refl
+    by false true e f = refl
+    by false false e f = refl
+
+pub bumped-most : (cells more : List ℕ) (a c n : ℕ) → more ≡ set cells a (at cells a + 1) → a < length cells → at cells c ≤ n → at more c ≤ n + 1
+bumped-most cells more a c n e l h = rw e (rw (bumped cells a c l) (by (eqb a c)))
+  where
+    by : (b : Bool) → at cells c + oneIf b ≤ n + 1
+    by true = omega arith
+    by false = omega arith
+
+-- two cells are bumped for one edge
+pub bumped-more : (t cells more most : List ℕ) (j a b : ℕ) → more ≡ set cells a (at cells a + 1) → most ≡ set more b (at more b + 1)
+    → a ≡ 4 * target t j + edgeKind t j → b ≡ 4 * source t j + 2 + edgeKind t j → edgeKind t j ≤ 1 → a < length cells → b < length cells
+    → ((c : ℕ) → at cells c ≡ count (hits t c) (below j)) → (c : ℕ) → at most c ≡ count (hits t c) (below (j + 1))
+bumped-more t cells more most j a b em en ea eb low la lb h c =
+    let n : length more ≡ length cells = ap length em ∙ length-set cells a (at cells a + 1) in
+    ap (λ (l : List ℕ). at l c) en
+    ∙ bumped more b c (omega arith)
+    ∙ ap (λ (x : ℕ). x + oneIf (eqb b c)) (ap (λ (l : List ℕ). at l c) em ∙ bumped cells a c la)
+    ∙ add-assoc (at cells c) (oneIf (eqb a c)) (oneIf (eqb b c))
+    ∙ ap₂ _+_ (h c) (either a b c (λ e. omega arith))
+    ∙ rw (ea, eb) (sym (count-below (hits t c) j))
+    ∙ ap (λ (x : ℕ). count (hits t c) (below x)) (sym (add-one j))
+
+-- which edges hit the cells of node i
+in-cell : (x y k i m : ℕ) → k ≤ 1 → m ≤ 1 → eqb (4 * x + k) (4 * i + m) || eqb (4 * y + 2 + k) (4 * i + m) ≡ eqb x i && eqb k m
+in-cell x y k i m hk hm =
+    iff _ _
+    (λ h. ⊎-elim
+    (λ p. let e = eqb-true (4 * x + k) (4 * i + m) p in and-both (eqb x i) (eqb k m) (eq-eqb x i (omega arith)) (eq-eqb k m (omega arith)))
+    (λ p. let e = eqb-true (4 * y + 2 + k) (4 * i + m) p in absurd (omega arith)) (or-true-cases _ _ h))
+    (λ h. let p = and-true-both (eqb x i) (eqb k m) h in
+    let e = eqb-true x i (p .0) in
+    let f = eqb-true k m (p .1) in or-left (eqb (4 * x + k) (4 * i + m)) _ (eq-eqb (4 * x + k) (4 * i + m) (omega arith)))
+
+out-cell : (x y k i m : ℕ) → k ≤ 1 → m ≤ 1 → eqb (4 * x + k) (4 * i + 2 + m) || eqb (4 * y + 2 + k) (4 * i + 2 + m) ≡ eqb y i && eqb k m
+out-cell x y k i m hk hm =
+    iff _ _
+    (λ h. ⊎-elim (λ p. let e = eqb-true (4 * x + k) (4 * i + 2 + m) p in absurd (omega arith))
+    (λ p. let e = eqb-true (4 * y + 2 + k) (4 * i + 2 + m) p in
+    and-both (eqb y i) (eqb k m) (eq-eqb y i (omega arith)) (eq-eqb k m (omega arith))) (or-true-cases _ _ h))
+    (λ h. let p = and-true-both (eqb y i) (eqb k m) h in
+    let e = eqb-true y i (p .0) in
+    let f = eqb-true k m (p .1) in or-right (eqb (4 * x + k) (4 * i + 2 + m)) _ (eq-eqb (4 * y + 2 + k) (4 * i + 2 + m) (omega arith)))
+
+not-object : (k : ℕ) → k ≤ 1 → eqb k 0 ≡ not (eqb k 1)
+not-object zero h = refl
+not-object (suc zero) h = refl
+not-object (suc (suc k)) h = absurd (omega arith)
+
+-- a cell is a count of the edges kept
+module _ (t cells : List ℕ) (h : (c : ℕ) → at cells c ≡ count (hits t c) (below (edges t))) where
+  cell : (c : ℕ) (p q : ℕ → Bool) → ((j : ℕ) → j < edges t → hits t c j ≡ p j && q j) → at cells c ≡ count q (keep p (below (edges t)))
+  cell c p q e =
+      h c ∙ count-below-same (hits t c) (λ j. p j && q j) (edges t) e ∙ sym (count-keep p q (below (edges t)))
+
+  pub tallied : ((j : ℕ) → j < edges t → EdgeFields t j) → Tallied t cells
+  unfolding into out
+  tallied facts i l = record {
+    control-in =
+        cell (4 * i) (λ j. eqb (target t j) i) (isControl t)
+        (λ j u. let k = facts j u .kind-fits in
+        rw (← add-zero (4 * i)) (in-cell (target t j) (source t j) (edgeKind t j) i 0 k (omega arith))
+        ∙ ap (λ (b : Bool). eqb (target t j) i && b) (not-object (edgeKind t j) k));
+    object-in =
+        cell (4 * i + 1) (λ j. eqb (target t j) i) (isObject t)
+        (λ j u. in-cell (target t j) (source t j) (edgeKind t j) i 1 (facts j u .kind-fits) (omega arith));
+    control-out =
+        cell (4 * i + 2) (λ j. eqb (source t j) i) (isControl t)
+        (λ j u. let k = facts j u .kind-fits in
+        rw (← add-zero (4 * i + 2)) (out-cell (target t j) (source t j) (edgeKind t j) i 0 k (omega arith))
+        ∙ ap (λ (b : Bool). eqb (source t j) i && b) (not-object (edgeKind t j) k));
+    object-out =
+        let three : 4 * i + 3 ≡ 4 * i + 2 + 1 = omega arith in
+        cell (4 * i + 3) (λ j. eqb (source t j) i) (isObject t)
+        (λ j u. rw three (out-cell (target t j) (source t j) (edgeKind t j) i 1 (facts j u .kind-fits) (omega arith)));
+  }
+
+-- ---- row 4 from the counts
+module _ (t : List ℕ) (i : ℕ) (d : Degrees) (h : Counts t i d) where
+  pub in-degree : d .into .control + d .into .object ≡ length (into t i)
+  in-degree = ap₂ _+_ (h .control-in) (h .object-in) ∙ sym (length-count (isObject t) (into t i))
+
+  pub out-degree : d .out .control + d .out .object ≡ length (out t i)
+  out-degree = ap₂ _+_ (h .control-out) (h .object-out) ∙ sym (length-count (isObject t) (out t i))
+
+  pub one-kind : ofOneKind t i ≡ eqb (d .into .control + d .out .control) 0 || eqb (d .into .object + d .out .object) 0
+  one-kind =
+      ap₂ _||_ (all-object t (into t i) (out t i) ∙ ap₂ (λ (a b : ℕ). eqb a 0 && eqb b 0) (sym (h .control-in)) (sym (h .control-out)) ∙ both (d .into .control) (d .out .control))
+      (all-control t (into t i) (out t i) ∙ ap₂ (λ (a b : ℕ). eqb a 0 && eqb b 0) (sym (h .object-in)) (sym (h .object-out)) ∙ both (d .into .object) (d .out .object))
+    where
+      both : (a b : ℕ) → eqb a 0 && eqb b 0 ≡ eqb (a + b) 0
+      both zero b = rw zero-add
+      both (suc a) b = rw (ne-eqb (suc a) 0 (λ e. omega arith), ne-eqb (suc a + b) 0 (λ e. omega arith))
+
+-- ---- row 4 by kind, where no chain of the forbidden length ends
+module _ (t : List ℕ) (i : ℕ) (free : chain t (limits .longestPath - 1) i ≡ false) where
+  pub at-action : kind t i ≡ 2 → actionShape t i ≡ shapeFine t i
+  unfolding shapeFine degreesFine oneKind joinFine actionFine chainFine
+  at-action e = sym (simp (e, free, and-true))
+
+  pub at-decision : kind t i ≡ 8 → splitFine t i ≡ shapeFine t i
+  unfolding shapeFine degreesFine oneKind joinFine actionFine chainFine
+  at-decision e = sym (simp (e, free, and-true))
+
+  pub at-merge : kind t i ≡ 9 → mergeFine t i ≡ shapeFine t i
+  unfolding shapeFine degreesFine oneKind joinFine actionFine chainFine
+  at-merge e = sym (simp (e, free, and-true))
+
+  pub at-fork : kind t i ≡ 10 → splitFine t i ≡ shapeFine t i
+  unfolding shapeFine degreesFine oneKind joinFine actionFine chainFine
+  at-fork e = sym (simp (e, free, and-true))
+
+  pub at-join : kind t i ≡ 11 → joinShape t i ≡ shapeFine t i
+  unfolding shapeFine degreesFine oneKind joinFine actionFine chainFine
+  at-join e = sym (simp (e, free, and-true))
+
+  pub at-rest : (kind t i ≡ 2 → ⊥) → (kind t i ≡ 8 → ⊥) → (kind t i ≡ 9 → ⊥) → (kind t i ≡ 10 → ⊥) → (kind t i ≡ 11 → ⊥) → true ≡ shapeFine t i
+  unfolding shapeFine degreesFine oneKind joinFine actionFine chainFine
+  at-rest a d m f j =
+      sym (simp (ne-eqb (kind t i) 2 a, ne-eqb (kind t i) 8 d, ne-eqb (kind t i) 9 m, ne-eqb (kind t i) 10 f, ne-eqb (kind t i) 11 j, free))
+
+-- ---- what a mark says
+pub unmarked : (b : Bool) → oneIf b ≡ 0 → b ≡ false
+unmarked true e = absurd (omega arith)
+unmarked false e = refl
+
+pub is-marked : (b : Bool) → (oneIf b ≡ 0 → ⊥) → b ≡ true
+is-marked true e = refl
+is-marked false e = absurd (e refl)
+
+pub mark-is : (b : Bool) → eqb (oneIf b) 1 ≡ b
+mark-is true = refl
+mark-is false = refl
+
+pub at-chain-end : (t : List ℕ) (i : ℕ) → chain t (limits .longestPath - 1) i ≡ true → shapeFine t i ≡ false
+unfolding shapeFine chainFine
+at-chain-end t i e = simp (e, and-false)
+
+-- an edge leads on from where a chain ends
+pub leads-not : (t : List ℕ) (k j : ℕ) → chain t k (source t j) ≡ false → leadsOn t k j ≡ false
+leads-not t k j e = rw e (and-false (isControlNode (kind t (target t j))))
+
+pub leads : (t : List ℕ) (k j : ℕ) → chain t k (source t j) ≡ true → leadsOn t k j ≡ isControlNode (kind t (target t j))
+leads t k j e = rw e (and-true (isControlNode (kind t (target t j))))
+
+-- an array that is not written yet
+pub blank : (n : ℕ) → Blank (replicate n 0)
+blank zero i = refl
+blank (suc n) zero = refl
+blank (suc n) (suc i) = blank n i
+
+-- a round without a mark settles every longer chain
+pub settled : (t marks : List ℕ) (k n : ℕ) → EdgesFine t → Chained t k marks → k ≤ n → ((i : ℕ) → i < nodes t → at marks i ≡ 0) → Chained t n marks
+settled t marks k n fine h l z i u =
+    let none : (i : ℕ) → i < nodes t → chain t k i ≡ false = λ i u. unmarked (chain t k i) (sym (h i u) ∙ z i u) in
+    let e : n - k + k ≡ n = omega arith in
+    let f : chain t n i ≡ false = rw e at (chain-over t (λ j v. edge-facts t j (fine j v) .source-fits) k none (n - k) i u) in
+    z i u ∙ ap oneIf (sym f)
+
+-- ---- the ladder of rows 1 to 4
+pub row-1 : (t : List ℕ) → frameFine t limits ≡ false → refused 1 0 ≡ tableRead t
+unfolding tableRead tableFine
+row-1 t f = sym (rw f)
+
+module _ (t : List ℕ) (frame : frameFine t limits ≡ true) where
+  pub row-2 : (i : ℕ) → lowest (λ k. not (nodeFine t k)) (nodes t) ≡ some i → refused 2 i ≡ tableRead t
+  unfolding tableRead tableFine
+  row-2 i n = sym (rw (frame, n))
+
+  module _ (nodes-pass : lowest (λ k. not (nodeFine t k)) (nodes t) ≡ none) where
+    pub row-3 : (j : ℕ) → lowest (λ k. not (edgeFine t k)) (edges t) ≡ some j → refused 3 j ≡ tableRead t
+    unfolding tableRead tableFine
+    row-3 j e = sym (rw (frame, nodes-pass, e))
+
+    module _ (edges-pass : lowest (λ k. not (edgeFine t k)) (edges t) ≡ none) where
+      pub row-4 : (i : ℕ) → lowest (λ k. not (shapeFine t k)) (nodes t) ≡ some i → refused 4 i ≡ tableRead t
+      unfolding tableRead tableFine
+      row-4 i s = sym (rw (frame, nodes-pass, edges-pass, s))
+
+      pub no-row : lowest (λ k. not (shapeFine t k)) (nodes t) ≡ none → good (countsOf t) ≡ tableRead t
+      unfolding tableRead tableFine
+      no-row s = sym (rw (frame, nodes-pass, edges-pass, s))
+
+-- where none fails, all pass
+pub all-pass : (p : ℕ → Bool) (n : ℕ) → lowest (λ k. not (p k)) n ≡ none → (k : ℕ) → k < n → p k ≡ true
+all-pass p n e k l = not-false (p k) (lowest-is-none (λ k. not (p k)) n e k l)
+
+pub found-below : (p : ℕ → Bool) (n i : ℕ) → lowest p n ≡ some i → i < n
+found-below p n i e = let f = lowest-is p n i e in omega arith
+
+pub counted : (x : Table) (n e : ℕ) → x .nodes ≡ n → x .edges ≡ e → x ≡ record { nodes = n; edges = e }
+counted x n e p q = ap₂ make p q
+  where
+    make : ℕ → ℕ → Table
+    make a b = record { nodes = a; edges = b }

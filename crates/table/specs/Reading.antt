@@ -1,0 +1,49 @@
+-- What the reader of a table answers, and what it knows of the bytes while it reads. Assumes nothing.
+use Prim.Native.Nat.{ℕ, _≤_, _<_}
+use mathlib.Core.Path.{_≡_}
+use mathlib.Core.Bool.{true}
+use mathlib.Core.List.{List}
+use mathlib.Core.Option.{Option, none, some}
+use lib.ListN.{length}
+use Rattle.paper.specs.Answers.{Answer, refused, good, _>>=_}
+use Rattle.paper.specs.Limits.{limits}
+use Rattle.paper.specs.Table.{nodes, edges, edgeAt, nodeFine, edgeFine, tableFine}
+use Rattle.table.specs.declared.Table.{Table}
+use Rattle.table.specs.declared.TableAnswer.{TableAnswer}
+use Rattle.table.specs.declared.TableAnswer.the-variants.{Good, Refused}
+use Rattle.table.specs.declared.Found.{Found}
+use Rattle.table.specs.declared.Found.the-variants.{At, Nothing}
+
+-- the number and the place of each answer
+abbrev pub said : TableAnswer → Answer Table
+said (Good x) = good x
+said (Refused n p) = refused n p
+
+abbrev pub countsOf : List ℕ → Table
+countsOf t = record { nodes = nodes t; edges = edges t }
+
+-- rows 1 to 4, and the counts of a table that passes them
+unfoldable pub tableRead : List ℕ → Answer Table
+tableRead t = do
+  _ ← tableFine t limits
+  good (countsOf t)
+
+-- the place of each answer of a search
+abbrev pub found : Found → Option ℕ
+found (At i) = some i
+found Nothing = none
+
+-- the counts x are those of t, within the limits, and t is as long as they say
+pub record Spans (t : List ℕ) (x : Table) : Type 0 where
+  pub nodes-read : x .nodes ≡ nodes t
+  pub edges-read : x .edges ≡ edges t
+  pub few-nodes : nodes t ≤ limits .mostNodes
+  pub few-edges : edges t ≤ limits .mostEdges
+  pub whole : length t ≡ edgeAt t (edges t)
+
+-- rows 2 and 3 refuse nothing
+abbrev pub NodesFine : List ℕ → Type 0
+NodesFine t = (i : ℕ) → i < nodes t → nodeFine t i ≡ true
+
+abbrev pub EdgesFine : List ℕ → Type 0
+EdgesFine t = (j : ℕ) → j < edges t → edgeFine t j ≡ true

@@ -1,0 +1,35 @@
+// Big-endian numbers in lent bytes, and the three numbers of an answer packed in one word.
+// Assumes nothing.
+ghost use mathlib.Core.Path.{_≡_};
+ghost use Prim.Native.Nat.{_+_, _*_, _^_, _≤_, _<_};
+ghost use lib.ListN.{length};
+ghost use Rattle.paper.specs.Lists.{at};
+ghost use Rattle.paper.specs.Operations.{packed};
+
+// A byte as a number that can be an index.
+pub fn wide(x: u8) -> usize
+    ensures { λ r. ⌜ (r ≡ x) × (r < 256) ⌝ }
+{
+    x as usize
+}
+
+// The big-endian number in two bytes from a place on.
+pub fn read16(s: &[u8], from: usize) -> usize
+    requires { ⌜ from + 2 ≤ length (now s) ⌝ }
+    ensures { λ r. ⌜ (r ≡ at (now (s .entry)) from * 256 + at (now (s .entry)) (from + 1)) × (r < 65536) ⌝ }
+{
+    wide(s[from]) * 256 + wide(s[from + 1])
+}
+
+// The weight of a refusal's number in a packed answer, 2 ^ 48, and of its place, 2 ^ 32. The length stands below them.
+const REFUSAL: u64 = 281474976710656;
+
+const PLACE: u64 = 4294967296;
+
+// A refusal's number, its place and a length in one word.
+pub fn pack(refusal: u8, place: u8, len: usize) -> u64
+    requires { ⌜ len < 2 ^ 32 ⌝ }
+    ensures { λ r. ⌜ r ≡ packed refusal place len ⌝ }
+{
+    (refusal as u64) * REFUSAL + (place as u64) * PLACE + (len as u64)
+}
