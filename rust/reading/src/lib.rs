@@ -1,0 +1,29 @@
+//! A plain reading of the paper "Token flow, tables and markings".
+//!
+//! Keshmirun runs the activity diagrams of card game tournaments. This crate
+//! says, sentence by sentence, what the paper promises of its six operations,
+//! so that an engine can be compared with it call by call. It is written to be
+//! read, not to be fast: an offer is a list entry, a choice is a list of end
+//! numbers, and pick tries the sets of ends one after another.
+//!
+//! The modules follow the paper's headings: `table`, `marking`, `offers`,
+//! `choices`, `operations`. `bytes`, `refusal` and `budget` are what these
+//! share. [`random`] makes tables, markings and whole events to compare on.
+
+#![forbid(unsafe_code)]
+#![warn(missing_docs)]
+
+mod budget;
+mod bytes;
+mod choices;
+mod marking;
+mod offers;
+mod operations;
+pub mod random;
+mod refusal;
+mod table;
+
+pub use operations::{
+    check, finish, pick, pick_within, sheet, sheet_within, start, step, step_within, Answer,
+    NO_NODE,
+};

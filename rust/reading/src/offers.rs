@@ -1,0 +1,317 @@
+//! The paper's heading "Offers": what could flow, and where it would end.
+
+use crate::budget::{Budget, Stop};
+use crate::bytes::Value;
+use crate::marking::Marking;
+use crate::refusal::{require, Refusal, GUARDS, SIZE_PASSED};
+use crate::table::{is_control_node, is_object_node, Table, DECISION, JOIN, OBJECT};
+
+/// "Sizes: at most 64 offers, 8 paths in an offer, 20 ends."
+pub const MOST_OFFERS: usize = 64;
+/// See [`MOST_OFFERS`].
+pub const MOST_PATHS: usize = 8;
+/// See [`MOST_OFFERS`].
+pub const MOST_ENDS: usize = 20;
+
+/// A path: the edges gone over, in order.
+pub type Path = Vec<u8>;
+
+/// What an offer was made from. Offers are named by their place in the list.
+#[derive(Debug, Clone, PartialEq, Eq)]
+pub enum Origin {
+    /// A first offer.
+    First,
+    /// Extended, at a decision, merge or fork, from this offer.
+    Extended(usize),
+    /// Joined from these offers, one from every incoming edge.
+    Joined(Vec<usize>),
+}
+
+/// "An offer has a value (none on control edges) and a set of paths."
+#[derive(Debug, Clone)]
+pub struct Offer {
+    /// The last edge of all its paths.
+    pub edge: usize,
+    /// What it was made from.
+    pub origin: Origin,
+    /// Its value.
+    pub value: Option<Value>,
+    /// Its paths, sorted.
+    pub paths: Vec<Path>,
+    /// "Makers of an offer: itself and all it was extended or joined from, back
+    /// to the start."
+    pub makers: Vec<usize>,
+}
+
+/// All offers of a marking under its guards, and the ends among them.
+#[derive(Debug)]
+pub struct Offers {
+    /// All offers, those that were made from others after these.
+    pub list: Vec<Offer>,
+    /// Per offer, whether it competes with each of the offers before it.
+    competing: Vec<Vec<bool>>,
+    /// The ends, in their order: end 0 is the offer `ends[0]`.
+    pub ends: Vec<usize>,
+}
+
+/// "Guards come as e bytes, 0 or 1; an unguarded edge must have 1." Refusal 7, or
+/// for each edge whether an offer may go over it.
+pub fn read_guards(table: &Table, bytes: &[u8]) -> Result<Vec<bool>, Refusal> {
+    require(GUARDS, bytes.len() == table.edges.len())?;
+    let is_good = |edge: usize| match bytes[edge] {
+        0 => table.edges[edge].guarded == 1,
+        byte => byte == 1,
+    };
+    require(GUARDS, table.edge_numbers().all(is_good))?;
+    Ok(bytes.iter().map(|byte| *byte == 1).collect())
+}
+
+impl Offers {
+    /// All offers, or refusal 8. `is_open` says for each edge whether its guard
+    /// byte is 1: "No offer goes over an edge whose byte is 0."
+    pub fn of(
+        table: &Table,
+        marking: &Marking,
+        is_open: &[bool],
+        budget: &mut Budget,
+    ) -> Result<Offers, Stop> {
+        let mut offers = Offers {
+            list: Vec::new(),
+            competing: Vec::new(),
+            ends: Vec::new(),
+        };
+        offers.add_first_offers(table, marking, is_open)?;
+        for node in table.control_nodes_in_flow_order() {
+            for edge in table.outgoing(node) {
+                if is_open[edge] && table.kind(node) == JOIN {
+                    offers.add_joined_offers(table, node, edge, budget)?;
+                } else if is_open[edge] {
+                    offers.add_extended_offers(table, node, edge)?;
+                }
+            }
+        }
+        offers.number_ends(table)?;
+        Ok(offers)
+    }
+
+    /// "First offers: a control edge with a count above 0 carries one offer,
+    /// however many tokens it holds. Each outgoing edge of a non-empty object
+    /// node carries one, with the oldest value. Path: that edge alone."
+    fn add_first_offers(
+        &mut self,
+        table: &Table,
+        marking: &Marking,
+        is_open: &[bool],
+    ) -> Result<(), Refusal> {
+        for edge in table.edge_numbers().filter(|edge| is_open[*edge]) {
+            let source = table.edges[edge].source;
+            let oldest = marking.stocks[source].first().copied();
+            if marking.counts[edge] > 0 || oldest.is_some() {
+                let paths = vec![vec![edge as u8]];
+                self.add(table, edge, Origin::First, oldest, paths)?;
+            }
+        }
+        Ok(())
+    }
+
+    /// "Decision, merge, fork: each incoming offer is extended over each outgoing
+    /// edge." Here, over the outgoing edge `edge`.
+    fn add_extended_offers(
+        &mut self,
+        table: &Table,
+        node: usize,
+        edge: usize,
+    ) -> Result<(), Refusal> {
+        for incoming in table.incoming(node) {
+            for offer in self.on_edge(incoming) {
+                let value = self.list[offer].value;
+                let paths = self.extended_paths(&[offer], edge);
+                self.add(table, edge, Origin::Extended(offer), value, paths)?;
+            }
+        }
+        Ok(())
+    }
+
+    /// "Join: for each way of taking one offer from every incoming edge, no two
+    /// competing, all their paths are extended over the outgoing edge."
+    fn add_joined_offers(
+        &mut self,
+        table: &Table,
+        join: usize,
+        edge: usize,
+        budget: &mut Budget,
+    ) -> Result<(), Stop> {
+        let incoming = table.incoming(join).into_iter();
+        let offered: Vec<Vec<usize>> = incoming.map(|edge| self.on_edge(edge)).collect();
+        if offered.iter().any(|offers| offers.is_empty()) {
+            return Ok(()); // an edge has nothing to take, so there is no way
+        }
+        self.add_ways(table, edge, &offered, &mut Vec::new(), budget)
+    }
+
+    /// Adds the joined offer of every way that begins with `way`, an offer from
+    /// each of the first incoming edges. A way is left as soon as two compete.
+    fn add_ways(
+        &mut self,
+        table: &Table,
+        edge: usize,
+        offered: &[Vec<usize>],
+        way: &mut Vec<usize>,
+        budget: &mut Budget,
+    ) -> Result<(), Stop> {
+        budget.take_step()?;
+        if way.len() == offered.len() {
+            return Ok(self.add_joined(table, edge, way)?);
+        }
+        for offer in &offered[way.len()] {
+            if !way.iter().any(|taken| self.compete(*taken, *offer)) {
+                way.push(*offer);
+                self.add_ways(table, edge, offered, way, budget)?;
+                way.pop();
+            }
+        }
+        Ok(())
+    }
+
+    /// The offer joined from `way`. "The value is that of the object edge's
+    /// offer."
+    fn add_joined(&mut self, table: &Table, edge: usize, way: &[usize]) -> Result<(), Refusal> {
+        let value = way
+            .iter()
+            .map(|offer| &self.list[*offer])
+            .find(|offer| table.edges[offer.edge].kind == OBJECT)
+            .and_then(|offer| offer.value);
+        let paths = self.extended_paths(way, edge);
+        self.add(table, edge, Origin::Joined(way.to_vec()), value, paths)
+    }
+
+    /// All paths of these offers, each extended over `edge`, sorted.
+    fn extended_paths(&self, offers: &[usize], edge: usize) -> Vec<Path> {
+        let mut paths = Vec::new();
+        for offer in offers {
+            for path in &self.list[*offer].paths {
+                let mut longer = path.clone();
+                longer.push(edge as u8);
+                paths.push(longer);
+            }
+        }
+        paths.sort();
+        paths
+    }
+
+    /// Adds an offer, unless "at most 64 offers, 8 paths in an offer" is passed.
+    fn add(
+        &mut self,
+        table: &Table,
+        edge: usize,
+        origin: Origin,
+        value: Option<Value>,
+        paths: Vec<Path>,
+    ) -> Result<(), Refusal> {
+        require(SIZE_PASSED, self.list.len() < MOST_OFFERS)?;
+        require(SIZE_PASSED, paths.len() <= MOST_PATHS)?;
+        let number = self.list.len();
+        let makers = self.makers(number, &origin);
+        self.list.push(Offer {
+            edge,
+            origin,
+            value,
+            paths,
+            makers,
+        });
+        let competes_with = |earlier| self.have_rival_makers(table, earlier, number);
+        let row = (0..number).map(competes_with).collect();
+        self.competing.push(row);
+        Ok(())
+    }
+
+    /// "Makers of an offer: itself and all it was extended or joined from, back
+    /// to the start."
+    fn makers(&self, itself: usize, origin: &Origin) -> Vec<usize> {
+        let mut makers = vec![itself];
+        match origin {
+            Origin::First => {}
+            Origin::Extended(from) => makers.extend(&self.list[*from].makers),
+            Origin::Joined(way) => {
+                for from in way {
+                    makers.extend(&self.list[*from].makers);
+                }
+            }
+        }
+        makers.sort_unstable();
+        makers.dedup();
+        makers
+    }
+
+    /// "Two offers compete if a maker of one and a different maker of the other
+    /// are" rivals.
+    fn have_rival_makers(&self, table: &Table, one: usize, other: usize) -> bool {
+        let ones = &self.list[one].makers;
+        let others = &self.list[other].makers;
+        ones.iter().any(|a| {
+            others
+                .iter()
+                .any(|b| a != b && self.are_rivals(table, *a, *b))
+        })
+    }
+
+    /// Whether two different makers are of sort (a), (b) or (c).
+    fn are_rivals(&self, table: &Table, one: usize, other: usize) -> bool {
+        let one = &self.list[one];
+        let other = &self.list[other];
+        let source = table.edges[one.edge].source;
+        let same_source = source == table.edges[other.edge].source;
+        match (&one.origin, &other.origin) {
+            // "(a) first offers of the same object node"
+            (Origin::First, Origin::First) => same_source && is_object_node(table.kind(source)),
+            // "(b) extensions of the same offer at the same decision"
+            (Origin::Extended(from), Origin::Extended(other_from)) => {
+                same_source && table.kind(source) == DECISION && from == other_from
+            }
+            // "(c) offers of the same join that have one of their joined offers
+            // in common"
+            (Origin::Joined(way), Origin::Joined(other_way)) => {
+                same_source && way.iter().any(|from| other_way.contains(from))
+            }
+            _ => false,
+        }
+    }
+
+    /// Whether two offers compete. No offer competes with itself.
+    pub fn compete(&self, one: usize, other: usize) -> bool {
+        let (earlier, later) = (one.min(other), one.max(other));
+        earlier != later && self.competing[later][earlier]
+    }
+
+    /// The offers on this edge.
+    pub fn on_edge(&self, edge: usize) -> Vec<usize> {
+        (0..self.list.len())
+            .filter(|offer| self.list[*offer].edge == edge)
+            .collect()
+    }
+
+    /// "An end is an offer on an edge whose target is no control node. [...]
+    /// Order of ends: by last edge number; then by their paths, sorted and
+    /// compared edge by edge, path by path, a shorter list first where it begins
+    /// the longer one." That is how Rust compares lists of lists. "at most [...]
+    /// 20 ends."
+    fn number_ends(&mut self, table: &Table) -> Result<(), Refusal> {
+        let list = &self.list;
+        let is_end = |offer: &usize| {
+            let target = table.edges[list[*offer].edge].target;
+            !is_control_node(table.kind(target))
+        };
+        let mut ends: Vec<usize> = (0..list.len()).filter(is_end).collect();
+        ends.sort_by(|a, b| {
+            let by_edge = list[*a].edge.cmp(&list[*b].edge);
+            by_edge.then_with(|| list[*a].paths.cmp(&list[*b].paths))
+        });
+        self.ends = ends;
+        require(SIZE_PASSED, self.ends.len() <= MOST_ENDS)
+    }
+
+    /// The offer that is this end.
+    pub fn end(&self, end: usize) -> &Offer {
+        &self.list[self.ends[end]]
+    }
+}

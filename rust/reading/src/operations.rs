@@ -1,0 +1,295 @@
+//! The paper's heading "Operations and their numbers": the six operations.
+//!
+//! "The lowest number that applies to the operation is given": every function
+//! here judges its refusals in the order of their numbers and stops at the first.
+
+use crate::budget::{Budget, Stop};
+use crate::bytes::{with_length, Reader, Value};
+use crate::choices::Choices;
+use crate::marking::Marking;
+use crate::offers::{read_guards, Offers};
+use crate::refusal::{
+    require, Refusal, MARKING_ENDED, NOT_RUNNING, NO_PICK, OUTPUT_SHORT, TOO_FULL, VALUE_LIST,
+};
+use crate::table::{Table, ACTION, INCOMING_PARAMETER, INITIAL, INPUT_PIN, MOST_UPPER, OUTPUT_PIN};
+
+/// What an operation answers.
+#[derive(Debug, Clone, PartialEq, Eq)]
+pub enum Answer {
+    /// The call is refused, with the paper's number and place.
+    Refused {
+        /// The refusal's number, 1 to 17.
+        number: u8,
+        /// The refusal's place, 0 where the paper gives 0.
+        place: u8,
+    },
+    /// The call succeeds. These are the reply's bytes, none for check.
+    Good(Vec<u8>),
+}
+
+/// "a node number, or 255 for none named"
+pub const NO_NODE: u8 = 255;
+
+/// "check: table. Writes nothing."
+pub fn check(table: &[u8]) -> Answer {
+    answer(Table::read(table).map(|_| Vec::new()))
+}
+
+/// "start: table, and per incoming parameter in order a count and values. Initial
+/// nodes' edges get count 1, all else is empty." `room` is the length of the lent
+/// output.
+pub fn start(table: &[u8], values: &[u8], room: usize) -> Answer {
+    answer(started(table, values).and_then(|reply| fit(reply, room)))
+}
+
+/// "sheet: table, marking, guards. Writes length (2), version 1, number of ends,
+/// then per end: last edge, 1 or 0 for value or none, 4 value bytes (zero if
+/// none), number of paths, and per path, in sorted order, its length and edges."
+pub fn sheet(table: &[u8], marking: &[u8], guards: &[u8], room: usize) -> Answer {
+    unbounded(|steps| sheet_within(table, marking, guards, room, steps))
+}
+
+/// "pick: as sheet, with a node number, or 255 for none named. Writes a choice."
+/// The first acceptable choice, and if a node is named, the first that has an end
+/// of it.
+pub fn pick(table: &[u8], marking: &[u8], guards: &[u8], node: u8, room: usize) -> Answer {
+    unbounded(|steps| pick_within(table, marking, guards, node, room, steps))
+}
+
+/// "step: as sheet, with a choice. Writes the marking."
+pub fn step(table: &[u8], marking: &[u8], guards: &[u8], choice: &[u8], room: usize) -> Answer {
+    unbounded(|steps| step_within(table, marking, guards, choice, room, steps))
+}
+
+/// "finish: table, marking, action, and per output pin in order a count and
+/// values. Input pins empty, the action is idle, values append, each outgoing
+/// control edge gains 1."
+pub fn finish(table: &[u8], marking: &[u8], action: u8, values: &[u8], room: usize) -> Answer {
+    let reply = finished(table, marking, usize::from(action), values);
+    answer(reply.and_then(|reply| fit(reply, room)))
+}
+
+/// [`sheet`] with at most `budget` enumeration steps, `None` if they run out.
+pub fn sheet_within(
+    table: &[u8],
+    marking: &[u8],
+    guards: &[u8],
+    room: usize,
+    budget: u64,
+) -> Option<Answer> {
+    let mut budget = Budget::new(budget);
+    bounded_answer(with_choices(
+        table,
+        marking,
+        guards,
+        &mut budget,
+        |choices, _| Ok(fit(written_sheet(choices.offers), room)?),
+    ))
+}
+
+/// [`pick`] with at most `budget` enumeration steps, `None` if they run out.
+pub fn pick_within(
+    table: &[u8],
+    marking: &[u8],
+    guards: &[u8],
+    node: u8,
+    room: usize,
+    budget: u64,
+) -> Option<Answer> {
+    let mut budget = Budget::new(budget);
+    bounded_answer(with_choices(
+        table,
+        marking,
+        guards,
+        &mut budget,
+        |choices, budget| {
+            let choice = picked(choices, node, budget)?;
+            Ok(fit(choice.iter().map(|end| *end as u8).collect(), room)?)
+        },
+    ))
+}
+
+/// [`step`] with at most `budget` enumeration steps, `None` if they run out.
+pub fn step_within(
+    table: &[u8],
+    marking: &[u8],
+    guards: &[u8],
+    choice: &[u8],
+    room: usize,
+    budget: u64,
+) -> Option<Answer> {
+    let mut budget = Budget::new(budget);
+    bounded_answer(with_choices(
+        table,
+        marking,
+        guards,
+        &mut budget,
+        |choices, _| {
+            let choice = choices.read(choice)?;
+            choices.accept(&choice)?;
+            Ok(fit(choices.step(&choice).write(choices.table), room)?)
+        },
+    ))
+}
+
+/// Refusals 1 to 8, which sheet, pick and step share; then what `reply` says.
+fn with_choices(
+    table: &[u8],
+    marking: &[u8],
+    guards: &[u8],
+    budget: &mut Budget,
+    reply: impl Fn(&Choices, &mut Budget) -> Result<Vec<u8>, Stop>,
+) -> Result<Vec<u8>, Stop> {
+    let table = Table::read(table)?;
+    let marking = live_marking(&table, marking)?;
+    let is_open = read_guards(&table, guards)?;
+    let offers = Offers::of(&table, &marking, &is_open, budget)?;
+    let choices = Choices {
+        table: &table,
+        marking: &marking,
+        offers: &offers,
+    };
+    reply(&choices, budget)
+}
+
+/// Refusals 5 and 6.
+fn live_marking(table: &Table, bytes: &[u8]) -> Result<Marking, Refusal> {
+    let marking = Marking::read(table, bytes)?;
+    require(MARKING_ENDED, !marking.ended)?;
+    Ok(marking)
+}
+
+/// The marking that start writes.
+fn started(table: &[u8], values: &[u8]) -> Result<Vec<u8>, Refusal> {
+    let table = Table::read(table)?;
+    let parameters = table.nodes_of_kind(INCOMING_PARAMETER);
+    let lists = value_lists(parameters.len(), values)?;
+    let mut marking = Marking::empty(&table);
+    append(&table, &mut marking, &parameters, &lists)?;
+    for initial in table.nodes_of_kind(INITIAL) {
+        for edge in table.outgoing(initial) {
+            marking.counts[edge] = 1;
+        }
+    }
+    Ok(marking.write(&table))
+}
+
+/// The marking that finish writes.
+fn finished(
+    table: &[u8],
+    marking: &[u8],
+    action: usize,
+    values: &[u8],
+) -> Result<Vec<u8>, Refusal> {
+    let table = Table::read(table)?;
+    let mut marking = live_marking(&table, marking)?;
+    require(NOT_RUNNING, is_running_action(&table, &marking, action))?;
+    let pins = table.pins_of(action, OUTPUT_PIN);
+    let lists = value_lists(pins.len(), values)?;
+    append(&table, &mut marking, &pins, &lists)?;
+    for edge in table.control_edges(table.outgoing(action)) {
+        marking.counts[edge] = marking.counts[edge]
+            .checked_add(1)
+            .ok_or_else(|| Refusal::new(TOO_FULL, 0))?;
+    }
+    for pin in table.pins_of(action, INPUT_PIN) {
+        marking.stocks[pin].clear();
+    }
+    marking.running[action] = false;
+    Ok(marking.write(&table))
+}
+
+/// Whether this is a node, an action, and runs.
+fn is_running_action(table: &Table, marking: &Marking, action: usize) -> bool {
+    action < table.nodes.len() && table.kind(action) == ACTION && marking.running[action]
+}
+
+/// So many times a count and values, and nothing after them. Refusal 15: "value
+/// list: cut, a count over 16, or bytes left".
+fn value_lists(number: usize, bytes: &[u8]) -> Result<Vec<Vec<Value>>, Refusal> {
+    let mut reader = Reader::new(bytes);
+    let lists: Option<Vec<Vec<Value>>> = (0..number).map(|_| reader.stock(MOST_UPPER)).collect();
+    lists
+        .filter(|_| reader.is_at_end())
+        .ok_or_else(|| Refusal::new(VALUE_LIST, 0))
+}
+
+/// "values append", to each of these nodes its list. Refusal 16: "stock over
+/// upper".
+fn append(
+    table: &Table,
+    marking: &mut Marking,
+    nodes: &[usize],
+    lists: &[Vec<Value>],
+) -> Result<(), Refusal> {
+    for (node, list) in nodes.iter().zip(lists) {
+        let stock = &mut marking.stocks[*node];
+        stock.extend_from_slice(list);
+        require(
+            TOO_FULL,
+            stock.len() <= usize::from(table.nodes[*node].upper),
+        )?;
+    }
+    Ok(())
+}
+
+/// The sheet, as its sentence under "Operations" writes it.
+fn written_sheet(offers: &Offers) -> Vec<u8> {
+    let mut body = vec![1, offers.ends.len() as u8];
+    for end in 0..offers.ends.len() {
+        let offer = offers.end(end);
+        body.push(offer.edge as u8);
+        body.push(u8::from(offer.value.is_some()));
+        body.extend_from_slice(&offer.value.unwrap_or([0; 4]));
+        body.push(offer.paths.len() as u8);
+        for path in &offer.paths {
+            body.push(path.len() as u8);
+            body.extend_from_slice(path);
+        }
+    }
+    with_length(&body)
+}
+
+/// The choice that pick writes. Refusal 13: "pick: a node is named and no
+/// acceptable choice has an end of it".
+fn picked(choices: &Choices, node: u8, budget: &mut Budget) -> Result<Vec<usize>, Stop> {
+    let named = if node == NO_NODE {
+        None
+    } else {
+        Some(usize::from(node))
+    };
+    let first = choices.first(named, budget)?;
+    Ok(first.ok_or_else(|| Refusal::new(NO_PICK, usize::from(node)))?)
+}
+
+/// Refusal 17: "lent output shorter than the reply".
+fn fit(reply: Vec<u8>, room: usize) -> Result<Vec<u8>, Refusal> {
+    require(OUTPUT_SHORT, reply.len() <= room)?;
+    Ok(reply)
+}
+
+/// The answer of an operation that needs no enumeration.
+fn answer(reply: Result<Vec<u8>, Refusal>) -> Answer {
+    match reply {
+        Ok(bytes) => Answer::Good(bytes),
+        Err(Refusal { number, place }) => Answer::Refused { number, place },
+    }
+}
+
+/// The answer of an operation with a budget.
+fn bounded_answer(reply: Result<Vec<u8>, Stop>) -> Option<Answer> {
+    match reply {
+        Ok(bytes) => Some(answer(Ok(bytes))),
+        Err(Stop::Refused(refusal)) => Some(answer(Err(refusal))),
+        Err(Stop::OutOfSteps) => None,
+    }
+}
+
+/// The answer with a budget that no call uses up.
+fn unbounded(operation: impl Fn(u64) -> Option<Answer>) -> Answer {
+    loop {
+        if let Some(answer) = operation(u64::MAX) {
+            return answer;
+        }
+    }
+}

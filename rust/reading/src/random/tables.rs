@@ -1,0 +1,380 @@
+//! Random good tables. A diagram grows from its sources: flows leave them, pass
+//! decisions, merges, forks and joins, and close on actions, pins, buffers,
+//! parameters and finals.
+
+use super::{Parts, Rng};
+use crate::table::{
+    is_control_node, ACTION, ACTIVITY_FINAL, CENTRAL_BUFFER, CONTROL, DECISION, FLOW_FINAL,
+    FORBIDDEN_CHAIN, FORK, INCOMING_PARAMETER, INITIAL, INPUT_PIN, JOIN, MERGE, MOST_EDGES,
+    MOST_NODES, OBJECT, OUTGOING_PARAMETER, OUTPUT_PIN,
+};
+
+/// A random table that check finds good: from one node to 48 nodes and 64 edges,
+/// with chains of up to 15 control nodes.
+pub fn table(rng: &mut Rng) -> Vec<u8> {
+    let mut diagram = Diagram::new(rng);
+    diagram.plant_nodes();
+    diagram.grow_control_nodes();
+    diagram.close_flows();
+    diagram.relax_pins();
+    diagram.feed_actions();
+    diagram.fill_up();
+    let mut parts = diagram.parts;
+    if rng.percent(85) {
+        parts.shuffle(rng);
+    }
+    parts.write()
+}
+
+/// An edge that has a source but no target yet.
+#[derive(Clone, Copy)]
+struct Flow {
+    kind: u8,
+    source: u8,
+    /// How many control nodes the longest chain that ends at the source has.
+    depth: usize,
+}
+
+/// A diagram as it grows.
+struct Diagram<'r> {
+    rng: &'r mut Rng,
+    parts: Parts,
+    open: Vec<Flow>,
+    /// How many nodes and edges it may get.
+    most_nodes: usize,
+    most_edges: usize,
+    /// How likely the deepest flow is the one that goes on.
+    deepest_first: usize,
+    /// How heavy decisions, merges, forks and joins weigh.
+    weights: [usize; 4],
+    /// The most edges that leave a decision or fork, or enter a merge or join.
+    width: usize,
+    /// Whether the last nodes and edges are filled up.
+    is_full: bool,
+}
+
+impl<'r> Diagram<'r> {
+    /// An empty diagram with random bounds.
+    fn new(rng: &'r mut Rng) -> Diagram<'r> {
+        let (least, most) = match rng.weighted(&[10, 30, 30, 20, 10]) {
+            0 => (1, 4),
+            1 => (5, 12),
+            2 => (13, 24),
+            3 => (25, 47),
+            _ => (48, 48),
+        };
+        let most_nodes = rng.between(least, most);
+        let most_edges = rng.between(most_nodes, 2 * most_nodes + 2).min(MOST_EDGES);
+        let mut weights = [1, 2, 4, 8]; // many forks and joins
+        if rng.percent(65) {
+            weights = [0; 4].map(|_: usize| rng.between(1, 4));
+        }
+        Diagram {
+            parts: Parts::default(),
+            open: Vec::new(),
+            most_nodes,
+            most_edges,
+            deepest_first: if rng.percent(20) { 90 } else { 25 },
+            weights,
+            width: if rng.percent(8) { 9 } else { rng.between(1, 4) },
+            is_full: rng.percent(10),
+            rng,
+        }
+    }
+
+    /// Whether so many nodes and edges may come. One node is kept for a final,
+    /// and one edge per action to feed it.
+    fn has_room(&self, nodes: usize, edges: usize) -> bool {
+        let kept = self.parts.nodes_of(&[ACTION]).len() + 1;
+        let edges_now = self.parts.edges.len() + self.open.len();
+        self.parts.nodes.len() + nodes < self.most_nodes
+            && edges_now + edges + kept <= self.most_edges
+    }
+
+    /// Sources and targets, on a third to three quarters of the nodes.
+    fn plant_nodes(&mut self) {
+        let share = self.rng.between(33, 75);
+        let planted = self.most_nodes * share / 100;
+        let mut weights = [40, 60, 0, 0, 0]; // first of all, a source
+        while self.parts.nodes.len() < planted && self.has_room(1, 2) {
+            let what = self.rng.weighted(&weights);
+            self.plant(what);
+            weights = [12, 18, 12, 13, 45];
+        }
+        if self.parts.nodes.is_empty() {
+            let what = self.rng.below(4);
+            self.plant(what);
+        }
+    }
+
+    /// One of five things.
+    fn plant(&mut self, what: usize) {
+        match what {
+            0 => self.plant_source(INITIAL, CONTROL),
+            1 => self.plant_source(INCOMING_PARAMETER, OBJECT),
+            2 => self.plant_source(CENTRAL_BUFFER, OBJECT),
+            3 => self.plant_target(),
+            _ => self.plant_action(),
+        }
+    }
+
+    /// A source with up to three flows, most often one.
+    fn plant_source(&mut self, kind: u8, flow_kind: u8) {
+        let upper = if flow_kind == OBJECT { self.upper() } else { 0 };
+        let source = self.parts.add_node(kind, upper);
+        let flows = [1, 0, 2, 3][self.rng.weighted(&[60, 8, 22, 10])];
+        self.add_flows(flow_kind, source, 0, flows);
+    }
+
+    /// An outgoing parameter or a final.
+    fn plant_target(&mut self) {
+        match self.rng.weighted(&[50, 25, 25]) {
+            0 => {
+                let upper = self.upper();
+                self.parts.add_node(OUTGOING_PARAMETER, upper)
+            }
+            1 => self.parts.add_node(FLOW_FINAL, 0),
+            _ => self.parts.add_node(ACTIVITY_FINAL, 0),
+        };
+    }
+
+    /// An action with its pins and the flows that leave it and them.
+    fn plant_action(&mut self) {
+        let action = self.parts.add_node(ACTION, 0);
+        let input_pins = self.rng.weighted(&[25, 50, 18, 7]);
+        let output_pins = self.rng.weighted(&[40, 45, 15]);
+        for _ in 0..input_pins {
+            if self.has_room(1, 1) {
+                let upper = self.upper();
+                let lower = self.lower(upper);
+                self.parts.add_pin(INPUT_PIN, action, lower, upper);
+            }
+        }
+        for _ in 0..output_pins {
+            if self.has_room(1, 1) {
+                let upper = self.upper();
+                let pin = self.parts.add_pin(OUTPUT_PIN, action, 0, upper);
+                let flows = [1, 0, 2][self.rng.weighted(&[75, 10, 15])];
+                self.add_flows(OBJECT, pin, 0, flows);
+            }
+        }
+        let flows = self.rng.weighted(&[50, 38, 12]);
+        self.add_flows(CONTROL, action, 0, flows);
+    }
+
+    /// An upper, most often a small one.
+    fn upper(&mut self) -> u8 {
+        let upper = match self.rng.weighted(&[40, 40, 10, 10]) {
+            0 => 1,
+            1 => self.rng.between(2, 4),
+            2 => self.rng.between(5, 15),
+            _ => 16,
+        };
+        upper as u8
+    }
+
+    /// A lower, most often 1.
+    fn lower(&mut self, upper: u8) -> u8 {
+        match self.rng.weighted(&[60, 15, 15, 10]) {
+            0 => 1,
+            1 => 0,
+            2 => upper.min(2),
+            _ => self.rng.between(0, usize::from(upper)) as u8,
+        }
+    }
+
+    /// So many flows from this source, as far as edges are left.
+    fn add_flows(&mut self, kind: u8, source: u8, depth: usize, flows: usize) {
+        for _ in 0..flows {
+            if self.has_room(0, 1) {
+                self.open.push(Flow {
+                    kind,
+                    source,
+                    depth,
+                });
+            }
+        }
+    }
+
+    /// Decisions, merges, forks and joins, until nodes, edges or flows are out.
+    fn grow_control_nodes(&mut self) {
+        let rounds = self.rng.between(0, self.most_nodes);
+        for _ in 0..rounds {
+            let leaving = self.rng.between(1, self.width);
+            let entering = self.rng.between(1, self.width).max(self.rng.below(3));
+            if self.has_room(1, leaving) {
+                let weights = self.weights;
+                match self.rng.weighted(&weights) {
+                    0 => self.grow(DECISION, 1, leaving),
+                    1 => self.grow(MERGE, entering, 1),
+                    2 => self.grow(FORK, 1, leaving),
+                    _ => self.grow(JOIN, entering, 1),
+                }
+            }
+        }
+    }
+
+    /// A control node that closes up to `entering` flows and opens `leaving`.
+    fn grow(&mut self, kind: u8, entering: usize, leaving: usize) {
+        let taken = self.take_flows(kind, entering);
+        let deepest = taken.iter().map(|flow| flow.depth).max();
+        if let Some(depth) = deepest {
+            let node = self.parts.add_node(kind, 0);
+            for flow in &taken {
+                self.close(*flow, node);
+            }
+            let is_object = taken.iter().any(|flow| flow.kind == OBJECT);
+            self.add_flows(u8::from(is_object), node, depth + 1, leaving);
+        }
+    }
+
+    /// Takes up to so many open flows that can meet at a node of this kind.
+    fn take_flows(&mut self, kind: u8, number: usize) -> Vec<Flow> {
+        let mut taken: Vec<Flow> = Vec::new();
+        while taken.len() < number {
+            let fitting: Vec<usize> = (0..self.open.len())
+                .filter(|place| can_meet(kind, &taken, self.open[*place]))
+                .collect();
+            let next = match self.next_of(&fitting) {
+                Some(place) => place,
+                None => return taken,
+            };
+            taken.push(self.open.swap_remove(next));
+        }
+        taken
+    }
+
+    /// One of these open flows: the deepest, or any.
+    fn next_of(&mut self, places: &[usize]) -> Option<usize> {
+        if self.rng.percent(self.deepest_first) {
+            let open = &self.open;
+            places
+                .iter()
+                .copied()
+                .max_by_key(|place| open[*place].depth)
+        } else {
+            self.rng.one_of(places)
+        }
+    }
+
+    /// Ends all flows at nodes that are no control nodes.
+    fn close_flows(&mut self) {
+        while let Some(flow) = self.open.pop() {
+            let target = self.target_for(flow.kind);
+            self.close(flow, target);
+        }
+    }
+
+    /// A target for a flow of this kind, most often one that has no edge yet.
+    fn target_for(&mut self, kind: u8) -> u8 {
+        let kinds: &[u8] = if kind == CONTROL {
+            &[ACTION, FLOW_FINAL, ACTIVITY_FINAL]
+        } else {
+            &[
+                INPUT_PIN,
+                CENTRAL_BUFFER,
+                OUTGOING_PARAMETER,
+                FLOW_FINAL,
+                ACTIVITY_FINAL,
+            ]
+        };
+        let targets = self.parts.nodes_of(kinds);
+        let is_free = |node: &u8| !self.parts.edges.iter().any(|edge| edge[2] == *node);
+        let free: Vec<u8> = targets.iter().copied().filter(is_free).collect();
+        let finals = self.parts.nodes_of(&[FLOW_FINAL, ACTIVITY_FINAL]);
+        let preferred = match self.rng.weighted(&[80, 10, 10]) {
+            0 if !free.is_empty() => free,
+            1 if !finals.is_empty() => finals,
+            _ => targets,
+        };
+        match self.rng.one_of(&preferred) {
+            Some(target) => target,
+            None => self.parts.add_node(FLOW_FINAL, 0),
+        }
+    }
+
+    /// Makes an edge of the flow, most often guarded if it leaves a decision.
+    fn close(&mut self, flow: Flow, target: u8) {
+        let leaves_decision = self.parts.nodes[usize::from(flow.source)][0] == DECISION;
+        let chance = if leaves_decision { 70 } else { 8 };
+        let guarded = u8::from(self.rng.percent(chance));
+        self.parts.add_edge(flow.kind, flow.source, target, guarded);
+    }
+
+    /// Gives most input pins that no edge enters a lower of 0, so that their
+    /// action can run.
+    fn relax_pins(&mut self) {
+        for pin in self.parts.nodes_of(&[INPUT_PIN]) {
+            let is_entered = self.parts.edges.iter().any(|edge| edge[2] == pin);
+            if !is_entered && self.rng.percent(80) {
+                self.parts.nodes[usize::from(pin)][2] = 0;
+            }
+        }
+    }
+
+    /// Gives each action that waits for nothing a control edge, or one of its
+    /// input pins a lower of 1.
+    fn feed_actions(&mut self) {
+        for action in self.parts.nodes_of(&[ACTION]) {
+            let is_entered = |edge: &[u8; 4]| edge[0] == CONTROL && edge[2] == action;
+            let pins = self.input_pins(action);
+            let waits = pins.iter().any(|pin| self.parts.nodes[*pin][2] >= 1);
+            if !waits && !self.parts.edges.iter().any(is_entered) {
+                match self.rng.one_of(&pins) {
+                    Some(pin) if self.rng.percent(25) => self.parts.nodes[pin][2] = 1,
+                    _ => self.add_control_edge_to(action),
+                }
+            }
+        }
+    }
+
+    /// The input pins of this action.
+    fn input_pins(&self, action: u8) -> Vec<usize> {
+        (0..self.parts.nodes.len())
+            .filter(|node| self.parts.nodes[*node][..2] == [INPUT_PIN, action])
+            .collect()
+    }
+
+    /// A control edge to this action from an initial node or any action.
+    fn add_control_edge_to(&mut self, action: u8) {
+        let sources = self.parts.nodes_of(&[INITIAL, ACTION]);
+        let source = self.rng.one_of(&sources).unwrap_or(action);
+        self.parts.add_edge(CONTROL, source, action, 0);
+    }
+
+    /// In full diagrams, nodes without edges up to 48, and as many more edges as
+    /// there is room for, next to edges that touch no control node.
+    fn fill_up(&mut self) {
+        if !self.is_full {
+            return;
+        }
+        while self.parts.nodes.len() < MOST_NODES {
+            self.plant_target();
+        }
+        let kind_of = |number: u8| self.parts.nodes[usize::from(number)][0];
+        let touches_none = |edge: &&[u8; 4]| {
+            !is_control_node(kind_of(edge[1])) && !is_control_node(kind_of(edge[2]))
+        };
+        let plain: Vec<[u8; 4]> = self
+            .parts
+            .edges
+            .iter()
+            .filter(touches_none)
+            .copied()
+            .collect();
+        while self.parts.edges.len() < MOST_EDGES && !plain.is_empty() {
+            let again = self.rng.one_of(&plain);
+            self.parts.edges.extend(again);
+        }
+    }
+}
+
+/// Whether this flow can enter a node of this kind together with those.
+fn can_meet(kind: u8, taken: &[Flow], flow: Flow) -> bool {
+    let has_object = taken.iter().any(|other| other.kind == OBJECT);
+    let fits = match kind {
+        JOIN => !(has_object && flow.kind == OBJECT),
+        _ => taken.iter().all(|other| other.kind == flow.kind),
+    };
+    fits && flow.depth + 1 < FORBIDDEN_CHAIN
+}

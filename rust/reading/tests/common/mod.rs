@@ -1,0 +1,64 @@
+//! What the tests share: hex, refusals and the paper's small event.
+
+#![allow(dead_code)]
+
+use reading::Answer;
+
+/// The bytes written in hex; blanks don't count.
+pub fn hex(text: &str) -> Vec<u8> {
+    let digits: Vec<char> = text.chars().filter(|c| !c.is_whitespace()).collect();
+    assert_eq!(digits.len() % 2, 0, "half a byte in {text}");
+    let byte = |pair: &[char]| {
+        pair.iter()
+            .fold(0, |byte, c| 16 * byte + c.to_digit(16).unwrap())
+    };
+    digits.chunks(2).map(|pair| byte(pair) as u8).collect()
+}
+
+/// The bytes written in hex, with their 2-byte length before them.
+pub fn framed(text: &str) -> Vec<u8> {
+    let body = hex(text);
+    let length = (body.len() as u16).to_be_bytes();
+    [&length[..], &body].concat()
+}
+
+/// Room for any reply.
+pub const ROOM: usize = 4096;
+
+/// A refusal.
+pub fn refused(number: u8, place: u8) -> Answer {
+    Answer::Refused { number, place }
+}
+
+/// The bytes of a good answer.
+pub fn reply(answer: Answer) -> Vec<u8> {
+    match answer {
+        Answer::Good(bytes) => bytes,
+        Answer::Refused { number, place } => panic!("refused {number} at {place}"),
+    }
+}
+
+/// The refusal's number, 0 if there is none.
+pub fn number(answer: &Answer) -> u8 {
+    match answer {
+        Answer::Good(_) => 0,
+        Answer::Refused { number, .. } => *number,
+    }
+}
+
+/// The small event's table.
+pub fn small_table() -> Vec<u8> {
+    hex("0033 01 07 05
+         01FF0000 06FF0004 08FF0000 0BFF0000 03050101 02FF0000 05FF0002
+         00000300 01010200 01020301 01020601 01030400")
+}
+
+/// The small event's marking.
+pub fn small_marking() -> Vec<u8> {
+    hex("000F 01 00 02 00000007 00000009 00 00 00 01")
+}
+
+/// The small event's guards.
+pub fn small_guards() -> Vec<u8> {
+    vec![1; 5]
+}

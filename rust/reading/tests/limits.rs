@@ -1,0 +1,494 @@
+//! The limits under the paper's "To run", each met and passed by one, and the
+//! sentences that are easily read in another way.
+
+mod common;
+
+use common::{framed, hex, number, refused, reply, small_guards, small_marking, small_table, ROOM};
+use reading::random::Parts;
+use reading::{check, finish, pick, sheet, sheet_within, start, step, Answer, NO_NODE};
+
+const INITIAL: u8 = 1;
+const ACTION: u8 = 2;
+const INPUT_PIN: u8 = 3;
+const OUTPUT_PIN: u8 = 4;
+const BUFFER: u8 = 5;
+const INCOMING: u8 = 6;
+const OUTGOING: u8 = 7;
+const DECISION: u8 = 8;
+const MERGE: u8 = 9;
+const FORK: u8 = 10;
+const JOIN: u8 = 11;
+const FLOW_FINAL: u8 = 12;
+const ACTIVITY_FINAL: u8 = 13;
+
+const CONTROL: u8 = 0;
+const OBJECT: u8 = 1;
+
+/// So many control edges from node 0, initial, to node 1.
+fn parts_with_edges(second_kind: u8, edges: usize) -> Parts {
+    let mut parts = Parts::default();
+    parts.add_node(INITIAL, 0);
+    parts.add_node(second_kind, 0);
+    for _ in 0..edges {
+        parts.add_edge(CONTROL, 0, 1, 0);
+    }
+    parts
+}
+
+/// An initial node, so many merges in a row, and a flow final.
+fn chain(length: u8) -> Parts {
+    let mut parts = Parts::default();
+    parts.add_node(INITIAL, 0);
+    for _ in 0..length {
+        let merge = parts.add_node(MERGE, 0);
+        parts.add_edge(CONTROL, merge - 1, merge, 0);
+    }
+    let end = parts.add_node(FLOW_FINAL, 0);
+    parts.add_edge(CONTROL, end - 1, end, 0);
+    parts
+}
+
+fn started(table: &[u8]) -> Vec<u8> {
+    reply(start(table, &[], ROOM))
+}
+
+/// The sheet from the start, all guards 1.
+fn first_sheet(parts: &Parts) -> Answer {
+    let table = parts.write();
+    sheet(&table, &started(&table), &vec![1; parts.edges.len()], ROOM)
+}
+
+/// The choice picked from the start, all guards 1, no node named.
+fn first_pick(parts: &Parts) -> Answer {
+    let table = parts.write();
+    pick(
+        &table,
+        &started(&table),
+        &vec![1; parts.edges.len()],
+        NO_NODE,
+        ROOM,
+    )
+}
+
+#[test]
+fn nodes_48_and_49() {
+    let mut parts = Parts::default();
+    assert_eq!(check(&parts.write()), refused(1, 0));
+    parts.nodes = vec![[FLOW_FINAL, 255, 0, 0]; 48];
+    assert_eq!(check(&parts.write()), Answer::Good(vec![]));
+    parts.nodes.push([FLOW_FINAL, 255, 0, 0]);
+    assert_eq!(check(&parts.write()), refused(1, 0));
+}
+
+#[test]
+fn edges_64_and_65() {
+    assert_eq!(
+        check(&parts_with_edges(FLOW_FINAL, 64).write()),
+        Answer::Good(vec![])
+    );
+    assert_eq!(
+        check(&parts_with_edges(FLOW_FINAL, 65).write()),
+        refused(1, 0)
+    );
+}
+
+#[test]
+fn upper_16_and_17() {
+    for (upper, answer) in [
+        (0, refused(2, 1)),
+        (1, Answer::Good(vec![])),
+        (16, Answer::Good(vec![])),
+        (17, refused(2, 1)),
+    ] {
+        let mut parts = Parts::default();
+        parts.add_node(INITIAL, 0);
+        parts.add_node(BUFFER, upper);
+        assert_eq!(check(&parts.write()), answer, "upper {upper}");
+    }
+}
+
+#[test]
+fn chains_of_15_and_16() {
+    assert_eq!(check(&chain(15).write()), Answer::Good(vec![]));
+    assert_eq!(check(&chain(16).write()), refused(4, 16));
+    // The longest path, of 16 edges.
+    let sheet = reply(first_sheet(&chain(15)));
+    assert_eq!(
+        sheet[10..],
+        hex("01 10 000102030405060708090A0B0C0D0E0F")[..]
+    );
+}
+
+#[test]
+fn control_nodes_behind_a_cycle() {
+    let mut parts = chain(4);
+    parts.nodes[2][0] = DECISION;
+    parts.add_edge(CONTROL, 2, 1, 0); // back to the first merge
+    assert_eq!(check(&parts.write()), refused(4, 1));
+    // A cycle at 4 leads to 3, which is the lowest at which a chain ends.
+    let mut parts = Parts::default();
+    parts.add_node(INITIAL, 0);
+    parts.add_node(FLOW_FINAL, 0);
+    parts.add_edge(CONTROL, 0, 4, 0);
+    parts.add_node(FLOW_FINAL, 0);
+    parts.add_node(MERGE, 0);
+    parts.add_node(MERGE, 0);
+    parts.add_node(FORK, 0);
+    parts.add_edge(CONTROL, 4, 5, 0);
+    parts.add_edge(CONTROL, 5, 4, 0);
+    parts.add_edge(CONTROL, 5, 3, 0);
+    parts.add_edge(CONTROL, 3, 1, 0);
+    assert_eq!(check(&parts.write()), refused(4, 3));
+}
+
+#[test]
+fn offers_64_and_65() {
+    // Four edges into a row of fifteen merges: 4 + 15 * 4 offers.
+    let mut parts = chain(15);
+    for _ in 0..3 {
+        parts.add_edge(CONTROL, 0, 1, 0);
+    }
+    assert_eq!(reply(first_sheet(&parts))[3], 4);
+    parts.add_edge(CONTROL, 0, 16, 0);
+    assert_eq!(first_sheet(&parts), refused(8, 0));
+    assert_eq!(first_pick(&parts), refused(8, 0));
+}
+
+#[test]
+fn ends_20_and_21() {
+    assert_eq!(reply(first_sheet(&parts_with_edges(FLOW_FINAL, 20)))[3], 20);
+    assert_eq!(
+        first_sheet(&parts_with_edges(FLOW_FINAL, 21)),
+        refused(8, 0)
+    );
+    let all: Vec<u8> = (0..20).collect();
+    assert_eq!(
+        first_pick(&parts_with_edges(FLOW_FINAL, 20)),
+        Answer::Good(all)
+    );
+}
+
+#[test]
+fn paths_8_and_9() {
+    for (edges, number_given) in [(8, 0), (9, 8)] {
+        let mut parts = parts_with_edges(JOIN, edges);
+        parts.add_node(FLOW_FINAL, 0);
+        parts.add_edge(CONTROL, 1, 2, 0);
+        assert_eq!(number(&first_sheet(&parts)), number_given);
+    }
+}
+
+/// An action that runs, with an edge to itself of this count.
+fn with_count(count: u8) -> (Vec<u8>, Vec<u8>) {
+    let mut parts = Parts::default();
+    parts.add_node(ACTION, 0);
+    parts.add_edge(CONTROL, 0, 0, 0);
+    (parts.write(), vec![0, 4, 1, 0, 1, count])
+}
+
+#[test]
+fn edge_254_and_255_before_finish() {
+    let (table, marking) = with_count(254);
+    let answer = finish(&table, &marking, 0, &[], ROOM);
+    assert_eq!(answer, Answer::Good(vec![0, 4, 1, 0, 0, 255]));
+    let (table, marking) = with_count(255);
+    assert_eq!(finish(&table, &marking, 0, &[], ROOM), refused(16, 0));
+}
+
+#[test]
+fn sheet_room_exact_and_one_short() {
+    let (table, marking, guards) = (small_table(), small_marking(), small_guards());
+    let whole = reply(sheet(&table, &marking, &guards, ROOM));
+    let exact = sheet(&table, &marking, &guards, whole.len());
+    assert_eq!(exact, Answer::Good(whole.clone()));
+    assert_eq!(
+        sheet(&table, &marking, &guards, whole.len() - 1),
+        refused(17, 0)
+    );
+}
+
+#[test]
+fn an_empty_pick_fits_no_room() {
+    let (table, guards) = (small_table(), small_guards());
+    let nothing = reply(start(&table, &[0], ROOM));
+    assert_eq!(
+        pick(&table, &nothing, &guards, NO_NODE, 0),
+        Answer::Good(vec![])
+    );
+    assert_eq!(
+        pick(&table, &small_marking(), &guards, NO_NODE, 0),
+        refused(17, 0)
+    );
+}
+
+#[test]
+fn a_frame_is_the_whole_slice() {
+    let mut table = small_table();
+    table.push(0);
+    assert_eq!(check(&table), refused(1, 0));
+    table.truncate(table.len() - 2);
+    assert_eq!(check(&table), refused(1, 0));
+    for marking in [
+        hex(""),
+        hex("00"),
+        hex("000F 01 00 02 00000007 00000009 00 00 00 01 00"),
+        hex("000F 01 00 02 00000007 00000009 00 00 00"),
+        hex("0010 01 00 02 00000007 00000009 00 00 00 01 00"),
+    ] {
+        let answer = sheet(&small_table(), &marking, &small_guards(), ROOM);
+        assert_eq!(answer, refused(5, 0));
+    }
+}
+
+#[test]
+fn ended_markings() {
+    let (table, guards) = (small_table(), small_guards());
+    let clean = hex("0007 01 01 00 00 00 00 00");
+    assert_eq!(sheet(&table, &clean, &guards, ROOM), refused(6, 0));
+    assert_eq!(finish(&table, &clean, 5, &[], ROOM), refused(6, 0));
+    let unclean = hex("0007 01 01 00 00 00 00 01");
+    assert_eq!(sheet(&table, &unclean, &guards, ROOM), refused(5, 0));
+    assert_eq!(finish(&table, &unclean, 5, &[], ROOM), refused(5, 0));
+}
+
+#[test]
+fn first_offers_need_their_guard() {
+    let mut parts = parts_with_edges(FLOW_FINAL, 2);
+    parts.edges[0][3] = 1;
+    let table = parts.write();
+    let sheet_with = |guards: &[u8]| sheet(&table, &started(&table), guards, ROOM);
+    assert_eq!(reply(sheet_with(&[1, 1]))[3], 2);
+    assert_eq!(
+        reply(sheet_with(&[0, 1])),
+        hex("000B 01 01 01 00 00000000 01 01 01")
+    );
+    assert_eq!(sheet_with(&[1, 0]), refused(7, 0));
+    assert_eq!(sheet_with(&[1]), refused(7, 0));
+    assert_eq!(sheet_with(&[1, 1, 1]), refused(7, 0));
+    assert_eq!(sheet_with(&[2, 1]), refused(7, 0));
+}
+
+/// A fork over guarded edges to a final and to a join that also waits for an
+/// action, which idles.
+fn fork_with_a_blocked_branch() -> Parts {
+    let mut parts = Parts::default();
+    parts.add_node(INITIAL, 0);
+    parts.add_node(FORK, 0);
+    parts.add_node(FLOW_FINAL, 0);
+    parts.add_node(JOIN, 0);
+    parts.add_node(ACTION, 0);
+    parts.add_edge(CONTROL, 0, 1, 0);
+    parts.add_edge(CONTROL, 1, 2, 1);
+    parts.add_edge(CONTROL, 1, 3, 1);
+    parts.add_edge(CONTROL, 4, 3, 0);
+    parts.add_edge(CONTROL, 3, 4, 0);
+    parts
+}
+
+#[test]
+fn a_closed_branch_is_not_missed_and_a_blocked_one_is() {
+    let table = fork_with_a_blocked_branch().write();
+    let marking = started(&table);
+    let step_0 = |guards: &[u8]| step(&table, &marking, guards, &[0], ROOM);
+    assert_eq!(number(&step_0(&[1, 1, 0, 1, 1])), 0);
+    assert_eq!(step_0(&[1, 1, 1, 1, 1]), refused(11, 1));
+    let pick = pick(&table, &marking, &[1, 1, 1, 1, 1], NO_NODE, ROOM);
+    assert_eq!(pick, Answer::Good(vec![]));
+}
+
+#[test]
+fn two_branches_of_a_decision_never_meet_at_a_join() {
+    for (kind, ends) in [(DECISION, 0), (FORK, 1)] {
+        let mut parts = Parts::default();
+        parts.add_node(INITIAL, 0);
+        parts.add_node(kind, 0);
+        parts.add_node(JOIN, 0);
+        parts.add_node(FLOW_FINAL, 0);
+        parts.add_edge(CONTROL, 0, 1, 0);
+        parts.add_edge(CONTROL, 1, 2, 0);
+        parts.add_edge(CONTROL, 1, 2, 0);
+        parts.add_edge(CONTROL, 2, 3, 0);
+        assert_eq!(reply(first_sheet(&parts))[3], ends);
+    }
+}
+
+#[test]
+fn offers_of_one_join_compete_if_they_share_an_offer() {
+    // Two edges into a merge, the merge and a third edge into a join.
+    let mut parts = Parts::default();
+    parts.add_node(INITIAL, 0);
+    parts.add_node(MERGE, 0);
+    parts.add_node(JOIN, 0);
+    parts.add_node(FLOW_FINAL, 0);
+    parts.add_edge(CONTROL, 0, 1, 0);
+    parts.add_edge(CONTROL, 0, 1, 0);
+    parts.add_edge(CONTROL, 0, 2, 0);
+    parts.add_edge(CONTROL, 1, 2, 0);
+    parts.add_edge(CONTROL, 2, 3, 0);
+    let table = parts.write();
+    let two_ends = framed(
+        "01 02
+         04 00 00000000 02 03 00 03 04 02 02 04
+         04 00 00000000 02 03 01 03 04 02 02 04",
+    );
+    assert_eq!(reply(first_sheet(&parts)), two_ends);
+    let both = step(&table, &started(&table), &[1; 5], &[0, 1], ROOM);
+    assert_eq!(both, refused(10, 0));
+    assert_eq!(first_pick(&parts), Answer::Good(vec![0]));
+}
+
+#[test]
+fn edges_of_one_object_node_compete_and_of_one_initial_do_not() {
+    let mut parts = Parts::default();
+    parts.add_node(INCOMING, 2);
+    parts.add_node(OUTGOING, 16);
+    parts.add_edge(OBJECT, 0, 1, 0);
+    parts.add_edge(OBJECT, 0, 1, 0);
+    let table = parts.write();
+    let marking = reply(start(&table, &hex("02 00000001 00000002"), ROOM));
+    assert_eq!(
+        step(&table, &marking, &[1, 1], &[0, 1], ROOM),
+        refused(10, 0)
+    );
+    let stepped = step(&table, &marking, &[1, 1], &[1], ROOM);
+    assert_eq!(reply(stepped), hex("000C 01 00 01 00000002 01 00000001"));
+    assert_eq!(
+        first_pick(&parts_with_edges(FLOW_FINAL, 2)),
+        Answer::Good(vec![0, 1])
+    );
+}
+
+/// An action with a pin of lower 1 and upper 2, fed by three parameters, and two
+/// control edges from an initial node.
+fn action_with_pin() -> (Vec<u8>, Vec<u8>) {
+    let mut parts = Parts::default();
+    parts.add_node(ACTION, 0);
+    parts.add_pin(INPUT_PIN, 0, 1, 2);
+    parts.add_node(INITIAL, 0);
+    for _ in 0..3 {
+        let parameter = parts.add_node(INCOMING, 1);
+        parts.add_edge(OBJECT, parameter, 1, 0);
+    }
+    parts.add_edge(CONTROL, 2, 0, 0);
+    parts.add_edge(CONTROL, 2, 0, 0);
+    let table = parts.write();
+    let values = hex("01 00000001 01 00000002 01 00000003");
+    let marking = reply(start(&table, &values, ROOM));
+    (table, marking)
+}
+
+#[test]
+fn an_action_agrees_as_a_whole() {
+    let (table, marking) = action_with_pin();
+    let step = |choice: &[u8]| step(&table, &marking, &[1; 5], choice, ROOM);
+    assert_eq!(step(&[0]), refused(12, 0)); // the pin is 1, its action 0
+    assert_eq!(step(&[3, 4]), refused(12, 0)); // the pin has too few
+    assert_eq!(step(&[0, 3]), refused(12, 0)); // edge 4 has none
+    assert_eq!(step(&[0, 1, 2, 3, 4]), refused(12, 0)); // the pin has too many
+    assert_eq!(number(&step(&[0, 1, 3, 4])), 0);
+    assert_eq!(step(&[0, 0]), refused(9, 0));
+    assert_eq!(step(&[1, 0]), refused(9, 0));
+    assert_eq!(step(&[5]), refused(9, 0));
+    for node in [0, 1, NO_NODE] {
+        let pick = pick(&table, &marking, &[1; 5], node, ROOM);
+        assert_eq!(pick, Answer::Good(vec![0, 1, 3, 4]));
+    }
+    let running = reply(step(&[0, 1, 3, 4]));
+    assert_eq!(
+        running,
+        framed("01 00 01 02 00000001 00000002 00 00 01 00000003 00 00")
+    );
+    let again = pick(&table, &running, &[1; 5], 0, ROOM);
+    assert_eq!(again, refused(13, 0)); // it runs
+}
+
+#[test]
+fn tokens_of_an_edge_go_as_one() {
+    let mut parts = Parts::default();
+    parts.add_node(ACTION, 0);
+    parts.add_edge(CONTROL, 0, 0, 0);
+    let table = parts.write();
+    let three = vec![0, 4, 1, 0, 0, 3];
+    let stepped = step(&table, &three, &[1], &[0], ROOM);
+    assert_eq!(reply(stepped), vec![0, 4, 1, 0, 1, 0]);
+}
+
+#[test]
+fn an_activity_final_ends_and_parameters_keep_all() {
+    let mut parts = Parts::default();
+    parts.add_node(INCOMING, 2);
+    parts.add_node(FORK, 0);
+    parts.add_node(ACTIVITY_FINAL, 0);
+    parts.add_node(OUTGOING, 2);
+    parts.add_edge(OBJECT, 0, 1, 0);
+    parts.add_edge(OBJECT, 1, 2, 0);
+    parts.add_edge(OBJECT, 1, 3, 0);
+    let table = parts.write();
+    let marking = framed("01 00 02 00000001 00000002 01 00000009");
+    let stepped = step(&table, &marking, &[1; 3], &[0, 1], ROOM);
+    assert_eq!(reply(stepped), hex("000C 01 01 00 02 00000009 00000001"));
+}
+
+#[test]
+fn room_that_the_same_step_frees_does_not_count() {
+    let mut parts = Parts::default();
+    parts.add_node(BUFFER, 2);
+    parts.add_edge(OBJECT, 0, 0, 0);
+    let table = parts.write();
+    let one = hex("0007 01 00 01 00000005");
+    assert_eq!(reply(step(&table, &one, &[1], &[0], ROOM)), one);
+    let two = hex("000B 01 00 02 00000005 00000006");
+    assert_eq!(step(&table, &two, &[1], &[0], ROOM), refused(12, 0));
+}
+
+#[test]
+fn value_lists() {
+    let mut parts = Parts::default();
+    parts.add_node(INCOMING, 1);
+    parts.add_node(INCOMING, 16);
+    let table = parts.write();
+    let start = |values: &[u8]| start(&table, values, ROOM);
+    assert_eq!(start(&hex("00")), refused(15, 0));
+    assert_eq!(start(&hex("00 00 00")), refused(15, 0));
+    assert_eq!(start(&hex("00 01 000000")), refused(15, 0));
+    assert_eq!(start(&[&[17], &[0; 80][..]].concat()), refused(15, 0));
+    assert_eq!(start(&hex("02 00000001 00000002 00")), refused(16, 0));
+    // The list as a whole comes before any stock.
+    assert_eq!(start(&hex("02 00000001 00000002")), refused(15, 0));
+    assert_eq!(start(&hex("02 00000001 00000002 11")), refused(15, 0));
+    let full = [&[0, 16], &[0; 64][..]].concat();
+    assert_eq!(number(&start(&full)), 0);
+}
+
+#[test]
+fn finish_takes_the_lists_of_the_actions_own_pins() {
+    let mut parts = Parts::default();
+    parts.add_node(ACTION, 0);
+    parts.add_node(ACTION, 0);
+    parts.add_pin(OUTPUT_PIN, 1, 0, 2);
+    parts.add_pin(OUTPUT_PIN, 0, 0, 2);
+    parts.add_edge(CONTROL, 0, 0, 0);
+    parts.add_edge(CONTROL, 1, 1, 0);
+    let table = parts.write();
+    let marking = framed("01 00 01 00 00 01 00000005 00 00");
+    let finish = |action: u8, values: &[u8]| finish(&table, &marking, action, values, ROOM);
+    let finished = framed("01 00 00 00 00 02 00000005 00000006 01 00");
+    assert_eq!(finish(0, &hex("01 00000006")), Answer::Good(finished));
+    assert_eq!(finish(0, &hex("02 00000006 00000007")), refused(16, 0));
+    assert_eq!(finish(0, &hex("00 00")), refused(15, 0));
+    assert_eq!(finish(0, &hex("")), refused(15, 0));
+    for action in [1, 2, 4, 255] {
+        assert_eq!(finish(action, &hex("00 00")), refused(14, 0)); // idle, a pin, none
+    }
+}
+
+#[test]
+fn a_budget_runs_out() {
+    let mut parts = parts_with_edges(JOIN, 2);
+    parts.add_node(FLOW_FINAL, 0);
+    parts.add_edge(CONTROL, 1, 2, 0);
+    let table = parts.write();
+    let sheet = |budget: u64| sheet_within(&table, &started(&table), &[1; 3], ROOM, budget);
+    assert_eq!(sheet(2), None);
+    assert_eq!(sheet(3).as_ref().map(number), Some(0));
+}

@@ -1,0 +1,60 @@
+//! `check` against the plain reading of the paper, on good, bad and damaged tables with fixed seeds.
+
+use keshmirun::Refusal;
+use reading::random::{damaged, table, Rng};
+use reading::Answer;
+
+/// Calls on a copy that stands amid other bytes, and sees that none of them changed.
+fn watched(table: &[u8], around: u8) -> Result<(), Refusal> {
+    let mut bytes = vec![around; 64];
+    bytes.extend_from_slice(table);
+    bytes.extend_from_slice(&[around; 64]);
+    let before = bytes.clone();
+    let answer = keshmirun::check(&bytes[64..64 + table.len()]);
+    assert_eq!(bytes, before, "check changed a byte");
+    answer
+}
+
+fn expected(table: &[u8]) -> Result<(), Refusal> {
+    match reading::check(table) {
+        Answer::Good(reply) => {
+            assert!(reply.is_empty());
+            Ok(())
+        }
+        Answer::Refused { number, place } => Err(Refusal { number, place }),
+    }
+}
+
+/// How often each answer came: 0 good, else the refusal's number.
+fn compare(seed: u64, calls: usize, mut next: impl FnMut(&mut Rng) -> Vec<u8>) -> [usize; 5] {
+    let mut rng = Rng::new(seed);
+    let mut seen = [0; 5];
+    for k in 0..calls {
+        let table = next(&mut rng);
+        let answer = watched(&table, k as u8);
+        assert_eq!(answer, expected(&table), "call {k} of seed {seed}: {table:02x?}");
+        seen[answer.err().map_or(0, |refusal| refusal.number as usize)] += 1;
+    }
+    seen
+}
+
+#[test]
+fn good_tables() {
+    let seen = compare(1, 40_000, table);
+    assert!(seen[0] > 30_000, "{seen:?}");
+}
+
+#[test]
+fn damaged_tables() {
+    let seen = compare(2, 100_000, |rng| {
+        let good = table(rng);
+        damaged(rng, &good)
+    });
+    assert!(seen.iter().all(|&count| count > 1_000), "{seen:?}");
+}
+
+#[test]
+fn any_bytes() {
+    let seen = compare(3, 20_000, |rng| (0..rng.below(600)).map(|_| rng.below(256) as u8).collect());
+    assert_eq!(seen[1], 20_000, "{seen:?}");
+}
