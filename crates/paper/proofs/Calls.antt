@@ -1,9 +1,10 @@
 -- What a call leaves: two answers that the same promise allows are equal, for every operation, and a word says its three numbers. Assumes nothing.
-use mathlib.Core.Path.{_≡_, sym, _∙_}
-use Prim.Native.Nat.{ℕ, _^_, _<_}
+use mathlib.Core.Path.{_≡_, refl, sym, ap, _∙_}
+use Prim.Native.Nat.{ℕ, _^_, _≤_, _<_}
 use native.Mathlib.Omega.{arith}
-use mathlib.Core.List.{List}
-use lib.ListN.{length}
+use mathlib.Core.List.{List, [], _++_}
+use borrow.Author.Tests.{le-leb, lt-leb}
+use lib.ListN.{length, drop}
 use Rattle.paper.specs.Answers.{Answer, refused, good}
 use Rattle.paper.specs.Operations.{check, start, sheet, step, finish, Pick, packed, inRoom, Reply, Leaves, Only}
 use Rattle.paper.proofs.Picks.{pick-unique}
@@ -12,6 +13,14 @@ use Rattle.paper.proofs.Picks.{pick-unique}
 pub packed-one : (n p l n′ p′ l′ : ℕ) → p < 2 ^ 16 → l < 2 ^ 32 → p′ < 2 ^ 16 → l′ < 2 ^ 32 →
     packed n p l ≡ packed n′ p′ l′ → (n ≡ n′) × (p ≡ p′) × (l ≡ l′)
 packed-one n p l n′ p′ l′ hp hl hp′ hl′ e = (omega arith, omega arith, omega arith)
+
+-- ---- a reply of known length, in too little room and in enough
+pub reply-short : (x before : List ℕ) (n w : ℕ) → length x ≡ n → length before < n → w ≡ packed 17 0 0 → Reply (inRoom (length before) (good x)) w before before
+reply-short x before n w e l h = rw (lt-leb (length x) (length before) (omega arith)) (h, refl)
+
+pub reply-full : (x before after : List ℕ) (n w : ℕ) → length x ≡ n → n ≤ length before → w ≡ packed 0 0 n → after ≡ x ++ drop (length x) before
+    → Reply (inRoom (length before) (good x)) w before after
+reply-full x before after n w e l h a = rw (le-leb (length x) (length before) (omega arith)) (h ∙ ap (packed 0 0) (sym e), a)
 
 -- ---- one word and one lent output
 reply-unique : (a : Answer (List ℕ)) (w v : ℕ) (before x y : List ℕ) → Reply a w before x → Reply a v before y → (w ≡ v) × (x ≡ y)

@@ -9,7 +9,7 @@ use mathlib.Core.List.{List, [], _∷_, _++_}
 use lib.Dec.{leb, eqb}
 use lib.ListN.{length}
 use borrow.Author.Tests.{eqb-true, eqb-false, eq-eqb, ne-eqb, le-leb}
-use Rattle.paper.specs.Lists.{from, below, all, any, keep, count, oneIf}
+use Rattle.paper.specs.Lists.{from, below, all, any, keep, gather, count, oneIf}
 use Rattle.paper.proofs.Bools.{never, and-true, and-both, or-left, or-right, true-or-false, false-if}
 use Rattle.paper.proofs.Lists.{below-suc}
 
@@ -150,3 +150,8 @@ count-most p (suc n) = rw (count-below p n) (by (p n) (count-most p n))
     by : (b : Bool) → count p (below n) ≤ n → count p (below n) + oneIf b ≤ suc n
     by true h = omega arith
     by false h = omega arith
+
+-- all of lists one after another
+pub all-gather : {A B : Type 0} (p : B → Bool) (f : A → List B) (xs : List A) → all p (gather f xs) ≡ all (λ x. all p (f x)) xs
+all-gather p f [] = refl
+all-gather p f (x ∷ xs) = all-append p (f x) (gather f xs) ∙ ap (λ (b : Bool). all p (f x) && b) (all-gather p f xs)

@@ -35,7 +35,7 @@ lists-words most (p ∷ ps) b vss rest u h n =
     rw (← e .0) (either-way Words (eqb n p) (f .0 .0) (listFor n ps (g .0 .0)) (v .small) more)
 
 -- a node that isn't listed gets nothing
-not-listed : (n : ℕ) (ps : List ℕ) (vss : List (List ℕ)) → (In n ps → ⊥) → listFor n ps vss ≡ []
+pub not-listed : (n : ℕ) (ps : List ℕ) (vss : List (List ℕ)) → (In n ps → ⊥) → listFor n ps vss ≡ []
 not-listed n [] vss h = refl
 not-listed n (p ∷ ps) [] h = refl
 not-listed n (p ∷ ps) (vs ∷ vss) h =

@@ -14,6 +14,7 @@ pub mod OneTable
 pub mod Fields
 pub mod OneMarking
 pub mod Given
+pub mod Written
 pub mod Origins
 pub mod Sameness
 pub mod Paths
@@ -23,6 +24,7 @@ pub mod Values
 pub mod Orders
 pub mod Ends
 pub mod Digits
+pub mod Bits
 pub mod Choices
 pub mod Search
 pub mod Boards

@@ -1,5 +1,5 @@
 -- Numbers below a bound: what holds of all of them, how their list is cut, and the lowest that passes. Assumes nothing.
-use mathlib.Core.Path.{_≡_, refl, sym, ap, _∙_}
+use mathlib.Core.Path.{_≡_, refl, sym, ap, _∙_, ap₂}
 use Prim.Native.Nat.{ℕ, zero, suc, _+_, _-_, _≤_, _<_}
 use native.Mathlib.Omega.{arith}
 use native.Mathlib.Numerals.{add-one}
@@ -8,7 +8,7 @@ use mathlib.Core.Bool.{Bool, true, false, cond}
 use mathlib.Core.Logic.{⊎-elim}
 use mathlib.Core.List.{List, [], _∷_, _++_}
 use mathlib.Core.Option.{Option, none, some}
-use Rattle.paper.specs.Lists.{from, below, find, all, lowest}
+use Rattle.paper.specs.Lists.{from, below, find, all, lowest, keep}
 use Rattle.paper.proofs.Members.{in-all, all-in, in-below, below-in}
 
 -- ---- numbers below n
@@ -88,3 +88,12 @@ lowest-is p n k e = rw e at (find-found p n 0)
 
 pub lowest-is-none : (p : ℕ → Bool) (n : ℕ) → lowest p n ≡ none → (k : ℕ) → k < n → p k ≡ false
 lowest-is-none p n e k l = let f : Found p 0 n none = rw e at (find-found p n 0) in f k (omega arith) (omega arith)
+
+-- ---- tests that agree below n keep the same
+from-same : (p q : ℕ → Bool) (n i : ℕ) → ((k : ℕ) → i ≤ k → k < i + n → p k ≡ q k) → keep p (from i n) ≡ keep q (from i n)
+from-same p q zero i h = refl
+from-same p q (suc n) i h =
+    ap₂ (λ (c : Bool) (l : List ℕ). cond c (i ∷ l) l) (h i (omega arith) (omega arith)) (from-same p q n (suc i) (λ k a b. h k (omega arith) (omega arith)))
+
+pub keep-same : (p q : ℕ → Bool) (n : ℕ) → ((k : ℕ) → k < n → p k ≡ q k) → keep p (below n) ≡ keep q (below n)
+keep-same p q n h = from-same p q n 0 (λ k a b. h k (omega arith))

@@ -5,7 +5,7 @@ use Prim.Native.Nat.{ℕ, zero, suc, _+_, _*_, _-_, _≤_, _<_}
 use native.Mathlib.Omega.{arith}
 use native.Mathlib.Nat.{zero-add, add-zero, add-assoc}
 use native.Mathlib.Numerals.{add-one}
-use mathlib.Core.Bool.{Bool, true, false, not, _&&_, _||_, or-true, or-false, and-true, and-false}
+use mathlib.Core.Bool.{Bool, true, false, not, _&&_, _||_, or-true, or-false, or-comm, and-true, and-false}
 use mathlib.Core.Logic.{⊎-elim}
 use mathlib.Core.List.{List}
 use mathlib.Core.Option.{none, some}
@@ -44,7 +44,7 @@ use Rattle.paper.specs.Table.{
   chainFine,
   shapeFine,
 }
-use Rattle.paper.proofs.Bools.{and-both, or-left, or-right, iff}
+use Rattle.paper.proofs.Bools.{and-both, or-left, iff}
 use Rattle.paper.proofs.Bools.{and-true as and-true-both, or-true as or-true-cases}
 use Rattle.paper.proofs.Lists.{lowest-none, lowest-some, lowest-is, lowest-is-none}
 use Rattle.paper.proofs.Counts.{count-below, count-below-same, any-below, count-keep, length-count}
@@ -96,17 +96,13 @@ pub marks-done : (q : ℕ → Bool) (f : ℕ → ℕ) (m : List ℕ) (j n a : �
     → any (λ x. q x && eqb (f x) a) (below n) ≡ b → at m a ≡ oneIf b
 marks-done q f m j n a b h e v = h a ∙ ap oneIf (ap (λ (y : ℕ). any (λ x. q x && eqb (f x) a) (below y)) e ∙ v)
 
-pub marked-length : (m : List ℕ) (b : Bool) (i : ℕ) → length (marked m b i) ≡ length m
-marked-length m true i = length-set m i 1
-marked-length m false i = refl
-
 -- a pin that feeds has an action
 pub feeder-owner : (t : List ℕ) (i : ℕ) → nodeFine t i ≡ true → isInput (kind t i) && leb 1 (lower t i) ≡ true → owner t i < nodes t
 feeder-owner t i h e = pin-owner t i h (or-left (isInput (kind t i)) (isOutput (kind t i)) (and-true-both (isInput (kind t i)) (leb 1 (lower t i)) e .0))
 
 -- ---- tallies: edge j counts in cell c
 abbrev pub hits : List ℕ → ℕ → ℕ → Bool
-hits t c j = eqb (4 * target t j + edgeKind t j) c || eqb (4 * source t j + 2 + edgeKind t j) c
+hits t c j = eqb (4 * target t j + 0 + edgeKind t j) c || eqb (4 * source t j + 2 + edgeKind t j) c
 
 bumped : (cells : List ℕ) (a c : ℕ) → a < length cells → at (set cells a (at cells a + 1)) c ≡ at cells c + oneIf (eqb a c)
 bumped cells a c l = by (eqb a c) refl
@@ -133,7 +129,7 @@ bumped-most cells more a c n e l h = rw e (rw (bumped cells a c l) (by (eqb a c)
 
 -- two cells are bumped for one edge
 pub bumped-more : (t cells more most : List ℕ) (j a b : ℕ) → more ≡ set cells a (at cells a + 1) → most ≡ set more b (at more b + 1)
-    → a ≡ 4 * target t j + edgeKind t j → b ≡ 4 * source t j + 2 + edgeKind t j → edgeKind t j ≤ 1 → a < length cells → b < length cells
+    → a ≡ 4 * target t j + 0 + edgeKind t j → b ≡ 4 * source t j + 2 + edgeKind t j → edgeKind t j ≤ 1 → a < length cells → b < length cells
     → ((c : ℕ) → at cells c ≡ count (hits t c) (below j)) → (c : ℕ) → at most c ≡ count (hits t c) (below (j + 1))
 bumped-more t cells more most j a b em en ea eb low la lb h c =
     let n : length more ≡ length cells = ap length em ∙ length-set cells a (at cells a + 1) in
@@ -145,61 +141,70 @@ bumped-more t cells more most j a b em en ea eb low la lb h c =
     ∙ rw (ea, eb) (sym (count-below (hits t c) j))
     ∙ ap (λ (x : ℕ). count (hits t c) (below x)) (sym (add-one j))
 
--- which edges hit the cells of node i
-in-cell : (x y k i m : ℕ) → k ≤ 1 → m ≤ 1 → eqb (4 * x + k) (4 * i + m) || eqb (4 * y + 2 + k) (4 * i + m) ≡ eqb x i && eqb k m
-in-cell x y k i m hk hm =
+-- an edge of kind k at node x, and at y on its other side, hits cell m of node i's side u; the sides are 0, in, and 2, out
+cell-hit : (x y k i m u v w : ℕ) → u ≡ 2 * w → u + v ≡ 2 → k ≤ 1 → m ≤ 1
+    → eqb (4 * x + u + k) (4 * i + u + m) || eqb (4 * y + v + k) (4 * i + u + m) ≡ eqb x i && eqb k m
+cell-hit x y k i m u v w eu ev hk hm =
     iff _ _
     (λ h. ⊎-elim
-    (λ p. let e = eqb-true (4 * x + k) (4 * i + m) p in and-both (eqb x i) (eqb k m) (eq-eqb x i (omega arith)) (eq-eqb k m (omega arith)))
-    (λ p. let e = eqb-true (4 * y + 2 + k) (4 * i + m) p in absurd (omega arith)) (or-true-cases _ _ h))
+    (λ p. let e = eqb-true (4 * x + u + k) (4 * i + u + m) p in and-both (eqb x i) (eqb k m) (eq-eqb x i (omega arith)) (eq-eqb k m (omega arith)))
+    (λ p. let e = eqb-true (4 * y + v + k) (4 * i + u + m) p in absurd (omega arith)) (or-true-cases _ _ h))
     (λ h. let p = and-true-both (eqb x i) (eqb k m) h in
     let e = eqb-true x i (p .0) in
-    let f = eqb-true k m (p .1) in or-left (eqb (4 * x + k) (4 * i + m)) _ (eq-eqb (4 * x + k) (4 * i + m) (omega arith)))
-
-out-cell : (x y k i m : ℕ) → k ≤ 1 → m ≤ 1 → eqb (4 * x + k) (4 * i + 2 + m) || eqb (4 * y + 2 + k) (4 * i + 2 + m) ≡ eqb y i && eqb k m
-out-cell x y k i m hk hm =
-    iff _ _
-    (λ h. ⊎-elim (λ p. let e = eqb-true (4 * x + k) (4 * i + 2 + m) p in absurd (omega arith))
-    (λ p. let e = eqb-true (4 * y + 2 + k) (4 * i + 2 + m) p in
-    and-both (eqb y i) (eqb k m) (eq-eqb y i (omega arith)) (eq-eqb k m (omega arith))) (or-true-cases _ _ h))
-    (λ h. let p = and-true-both (eqb y i) (eqb k m) h in
-    let e = eqb-true y i (p .0) in
-    let f = eqb-true k m (p .1) in or-right (eqb (4 * x + k) (4 * i + 2 + m)) _ (eq-eqb (4 * y + 2 + k) (4 * i + 2 + m) (omega arith)))
+    let f = eqb-true k m (p .1) in or-left (eqb (4 * x + u + k) (4 * i + u + m)) _ (eq-eqb (4 * x + u + k) (4 * i + u + m) (omega arith)))
 
 not-object : (k : ℕ) → k ≤ 1 → eqb k 0 ≡ not (eqb k 1)
 not-object zero h = refl
 not-object (suc zero) h = refl
 not-object (suc (suc k)) h = absurd (omega arith)
 
--- a cell is a count of the edges kept
-module _ (t cells : List ℕ) (h : (c : ℕ) → at cells c ≡ count (hits t c) (below (edges t))) where
+-- a cell is a count of the edges kept: those of kind m into node i, or out of it
+module _ (t cells : List ℕ) (h : (c : ℕ) → at cells c ≡ count (hits t c) (below (edges t))) (facts : (j : ℕ) → j < edges t → EdgeFields t j) where
   cell : (c : ℕ) (p q : ℕ → Bool) → ((j : ℕ) → j < edges t → hits t c j ≡ p j && q j) → at cells c ≡ count q (keep p (below (edges t)))
   cell c p q e =
       h c ∙ count-below-same (hits t c) (λ j. p j && q j) (edges t) e ∙ sym (count-keep p q (below (edges t)))
 
-  pub tallied : ((j : ℕ) → j < edges t → EdgeFields t j) → Tallied t cells
-  unfolding into out
-  tallied facts i l = record {
-    control-in =
-        cell (4 * i) (λ j. eqb (target t j) i) (isControl t)
-        (λ j u. let k = facts j u .kind-fits in
-        rw (← add-zero (4 * i)) (in-cell (target t j) (source t j) (edgeKind t j) i 0 k (omega arith))
-        ∙ ap (λ (b : Bool). eqb (target t j) i && b) (not-object (edgeKind t j) k));
-    object-in =
-        cell (4 * i + 1) (λ j. eqb (target t j) i) (isObject t)
-        (λ j u. in-cell (target t j) (source t j) (edgeKind t j) i 1 (facts j u .kind-fits) (omega arith));
-    control-out =
-        cell (4 * i + 2) (λ j. eqb (source t j) i) (isControl t)
-        (λ j u. let k = facts j u .kind-fits in
-        rw (← add-zero (4 * i + 2)) (out-cell (target t j) (source t j) (edgeKind t j) i 0 k (omega arith))
-        ∙ ap (λ (b : Bool). eqb (source t j) i && b) (not-object (edgeKind t j) k));
-    object-out =
-        let three : 4 * i + 3 ≡ 4 * i + 2 + 1 = omega arith in
-        cell (4 * i + 3) (λ j. eqb (source t j) i) (isObject t)
-        (λ j u. rw three (out-cell (target t j) (source t j) (edgeKind t j) i 1 (facts j u .kind-fits) (omega arith)));
+  -- a test of an edge is whether its kind is m
+  abbrev Tells : ℕ → (ℕ → Bool) → Type 0
+  Tells m q = (j : ℕ) → edgeKind t j ≤ 1 → eqb (edgeKind t j) m ≡ q j
+
+  in-cell : (i m c : ℕ) (q : ℕ → Bool) → Tells m q → c ≡ 4 * i + 0 + m → m ≤ 1 → at cells c ≡ count q (into t i)
+  unfolding into
+  in-cell i m c q tells e l =
+      cell c (λ j. eqb (target t j) i) q
+      (λ j u. let k = facts j u .kind-fits in
+      rw e (cell-hit (target t j) (source t j) (edgeKind t j) i m 0 2 0 refl refl k l) ∙ ap (λ (b : Bool). eqb (target t j) i && b) (tells j k))
+
+  out-cell : (i m c : ℕ) (q : ℕ → Bool) → Tells m q → c ≡ 4 * i + 2 + m → m ≤ 1 → at cells c ≡ count q (out t i)
+  unfolding out
+  out-cell i m c q tells e l =
+      cell c (λ j. eqb (source t j) i) q
+      (λ j u. let k = facts j u .kind-fits in
+      rw e (or-comm (eqb (4 * target t j + 0 + edgeKind t j) (4 * i + 2 + m)) _ ∙ cell-hit (source t j) (target t j) (edgeKind t j) i m 2 0 1 refl refl k l)
+      ∙ ap (λ (b : Bool). eqb (source t j) i && b) (tells j k))
+
+  control : Tells 0 (isControl t)
+  control j k = not-object (edgeKind t j) k
+
+  object : Tells 1 (isObject t)
+  object j k = refl
+
+  pub tallied : Tallied t cells
+  tallied i l = record {
+    control-in = in-cell i 0 (4 * i) (isControl t) control (omega arith) (omega arith);
+    object-in = in-cell i 1 (4 * i + 1) (isObject t) object (omega arith) (omega arith);
+    control-out = out-cell i 0 (4 * i + 2) (isControl t) control (omega arith) (omega arith);
+    object-out = out-cell i 1 (4 * i + 3) (isObject t) object (omega arith) (omega arith);
   }
 
 -- ---- row 4 from the counts
+none-of : (a b : ℕ) → eqb a 0 && eqb b 0 ≡ eqb (a + b) 0
+none-of zero b = rw zero-add
+none-of (suc a) b = rw (ne-eqb (suc a) 0 (λ e. omega arith), ne-eqb (suc a + b) 0 (λ e. omega arith))
+
+neither : {a b c d : ℕ} → a ≡ c → b ≡ d → eqb c 0 && eqb d 0 ≡ eqb (a + b) 0
+neither {a} {b} e f = rw (← e, ← f) (none-of a b)
+
 module _ (t : List ℕ) (i : ℕ) (d : Degrees) (h : Counts t i d) where
   pub in-degree : d .into .control + d .into .object ≡ length (into t i)
   in-degree = ap₂ _+_ (h .control-in) (h .object-in) ∙ sym (length-count (isObject t) (into t i))
@@ -209,12 +214,8 @@ module _ (t : List ℕ) (i : ℕ) (d : Degrees) (h : Counts t i d) where
 
   pub one-kind : ofOneKind t i ≡ eqb (d .into .control + d .out .control) 0 || eqb (d .into .object + d .out .object) 0
   one-kind =
-      ap₂ _||_ (all-object t (into t i) (out t i) ∙ ap₂ (λ (a b : ℕ). eqb a 0 && eqb b 0) (sym (h .control-in)) (sym (h .control-out)) ∙ both (d .into .control) (d .out .control))
-      (all-control t (into t i) (out t i) ∙ ap₂ (λ (a b : ℕ). eqb a 0 && eqb b 0) (sym (h .object-in)) (sym (h .object-out)) ∙ both (d .into .object) (d .out .object))
-    where
-      both : (a b : ℕ) → eqb a 0 && eqb b 0 ≡ eqb (a + b) 0
-      both zero b = rw zero-add
-      both (suc a) b = rw (ne-eqb (suc a) 0 (λ e. omega arith), ne-eqb (suc a + b) 0 (λ e. omega arith))
+      ap₂ _||_ (all-object t (into t i) (out t i) ∙ neither (h .control-in) (h .control-out))
+      (all-control t (into t i) (out t i) ∙ neither (h .object-in) (h .object-out))
 
 -- ---- row 4 by kind, where no chain of the forbidden length ends
 module _ (t : List ℕ) (i : ℕ) (free : chain t (limits .longestPath - 1) i ≡ false) where

@@ -1,7 +1,7 @@
 -- What a table's reading says of its bytes, for the operations above: the ladder's rows where it is refused, and what every reader may rely on where
 -- it is good. Assumes nothing.
 use mathlib.Core.Path.{_≡_, refl, sym, ap, _∙_}
-use Prim.Native.Nat.{ℕ, _<_}
+use Prim.Native.Nat.{ℕ, _≤_, _<_}
 use native.Mathlib.Omega.{arith}
 use mathlib.Core.List.{List}
 use Rattle.paper.specs.Answers.{Answer, refused, good, _>>=_}
@@ -21,7 +21,7 @@ read-refused t n p e = by (tableFine t limits) e
     by (refused k q) e = cc
     by (good u) e = no-good (sym e)
 
-module _ (t : List ℕ) (x : Table) (h : tableRead t ≡ good x) where
+module _ (t : List ℕ) {x : Table} (h : tableRead t ≡ good x) where
   pub read-fine : tableFine t limits ≡ good tt
   unfolding tableRead
   read-fine = row-good (tableFine t limits) (λ u. good (countsOf t)) x h .1
@@ -43,6 +43,13 @@ module _ (t : List ℕ) (x : Table) (h : tableRead t ≡ good x) where
         few-edges = f .edges-fit;
         whole = f .all-of-it;
       }
+
+  -- the counts keep to the limits
+  pub most-nodes : x .nodes ≤ limits .mostNodes
+  most-nodes = let s = read-spans in rw (sym (s .nodes-read)) at (s .few-nodes)
+
+  pub most-edges : x .edges ≤ limits .mostEdges
+  most-edges = let s = read-spans in rw (sym (s .edges-read)) at (s .few-edges)
 
   -- an edge's ends are nodes
   pub source-node : (j : ℕ) → j < x .edges → source t j < x .nodes

@@ -34,6 +34,7 @@ enum Found {
 }
 
 impl Table {
+    // The paper's limits.
     pub const MOST_NODES: usize = 48;
 
     pub const MOST_EDGES: usize = 64;
@@ -54,7 +55,7 @@ impl Table {
     // The owner of what is no pin.
     pub const NO_OWNER: usize = 255;
 
-    // The kind of an object edge; a control edge has the one below it.
+    // The kind of an object edge; that of a control edge is 0.
     pub const OBJECT: usize = 1;
 
     // Kinds of node.
@@ -98,6 +99,7 @@ impl Table {
         Self::HEADER + Self::NODE * self.nodes + Self::EDGE * j
     }
 
+    // The fields of node i, each as a number.
     pub fn kind(self, s: &[u8], i: usize) -> usize
         requires { ⌜ Spans (now s) self × (i < self .nodes) ⌝ }
         ensures { λ r. ⌜ (r ≡ kind (now (s .entry)) i) × (r < 256) ⌝ }
@@ -126,6 +128,7 @@ impl Table {
         wire::wide(s[Self::node_at(i) + 3])
     }
 
+    // The fields of edge j, each as a number.
     pub fn edge_kind(self, s: &[u8], j: usize) -> usize
         requires { ⌜ Spans (now s) self × (j < self .edges) ⌝ }
         ensures { λ r. ⌜ (r ≡ edgeKind (now (s .entry)) j) × (r < 256) ⌝ }
@@ -154,7 +157,7 @@ impl Table {
         wire::wide(s[self.edge_at(j) + 3])
     }
 
-    // The two counts, the header's last bytes.
+    // The two counts, which end the header.
     fn counts(s: &[u8]) -> Self
         requires { ⌜ header (now s) ≤ length (now s) ⌝ }
         ensures { λ r. ⌜ (r .nodes ≡ nodes (now (s .entry))) × (r .edges ≡ edges (now (s .entry))) × (r .nodes < 256) × (r .edges < 256) ⌝ }
@@ -166,12 +169,14 @@ impl Table {
     }
 }
 
+// The bounds count as inside.
 fn within(low: usize, high: usize, x: usize) -> bool
     ensures { λ r. ⌜ r ≡ within low high x ⌝ }
 {
     low <= x && x <= high
 }
 
+// Tests of a node's kind.
 pub fn is_pin(k: usize) -> bool
     ensures { λ r. ⌜ r ≡ isPin k ⌝ }
 {
@@ -245,6 +250,7 @@ fn frame_fine(s: &[u8]) -> bool
     l == table.edge_at(e)
 }
 
+// The parts of row 2: the owner of a node of kind k, its upper and its lower.
 fn owner_fine(s: &[u8], table: Table, k: usize, o: usize) -> bool
     requires { ⌜ Spans (now s) table ⌝ }
     ensures { λ r. ⌜ r ≡ cond (isPin k) (ltb o (nodes (now (s .entry))) && isAction (kind (now (s .entry)) o)) (eqb o 255) ⌝ }
@@ -321,6 +327,7 @@ fn edge_fine(s: &[u8], table: Table, j: usize) -> bool
     may_enter(k == Table::OBJECT, table.kind(s, to))
 }
 
+// The lowest node that row 2 refuses.
 fn bad_node(s: &[u8], table: Table) -> Found
     requires { ⌜ Spans (now s) table ⌝ }
     ensures { λ r. ⌜ found r ≡ lowest (λ i. not (nodeFine (now (s .entry)) i)) (nodes (now (s .entry))) ⌝ }
@@ -336,6 +343,7 @@ fn bad_node(s: &[u8], table: Table) -> Found
     Found::Nothing
 }
 
+// The lowest edge that row 3 refuses.
 fn bad_edge(s: &[u8], table: Table) -> Found
     requires { ⌜ Spans (now s) table ⌝ }
     ensures { λ r. ⌜ found r ≡ lowest (λ j. not (edgeFine (now (s .entry)) j)) (edges (now (s .entry))) ⌝ }
@@ -357,6 +365,7 @@ struct Side {
     object: u8,
 }
 
+// The two sides of a node.
 struct Degrees {
     into: Side,
     out: Side,
@@ -408,7 +417,7 @@ fn tally(s: &[u8], table: Table, cells: &mut [u8])
     }
 }
 
-// A mark at i, if the test passes.
+// A mark at i, if the test passes: a pass over nodes or edges hands on what it found.
 fn mark(marks: &mut [u8], on: bool, i: usize)
     requires { ⌜ (on ≡ true → i < length (now marks)) ⌝ }
     ensures { λ _. ⌜ now (marks .exit) ≡ marked (now (marks .entry)) on i ⌝ }
@@ -516,12 +525,14 @@ fn chain_ends(s: &[u8], table: Table) -> [u8; Table::MOST_NODES]
     marks
 }
 
+// How many edges there are on a side.
 fn degree(side: Side) -> usize
     ensures { λ r. ⌜ r ≡ side .control + side .object ⌝ }
 {
     wire::wide(side.control) + wire::wide(side.object)
 }
 
+// Edges of one kind alone, in and out. Sums take one test where four cells would take four.
 fn has_one_kind(d: Degrees) -> bool
     ensures { λ r. ⌜ ((t : List ℕ) (i : ℕ) → Counts t i d → r ≡ ofOneKind t i) ⌝ }
 {
@@ -531,7 +542,7 @@ fn has_one_kind(d: Degrees) -> bool
     wire::wide(d.into.object) + wire::wide(d.out.object) == 0
 }
 
-// A decision or a fork.
+// A decision or a fork: one edge in, some out.
 fn split_fine(d: Degrees) -> bool
     ensures { λ r. ⌜ ((t : List ℕ) (i : ℕ) → Counts t i d → r ≡ splitFine t i) ⌝ }
 {
@@ -544,7 +555,7 @@ fn split_fine(d: Degrees) -> bool
     has_one_kind(d)
 }
 
-// At least one edge in, and exactly one out.
+// What a merge and a join share: some edges in, one out.
 fn meets(d: Degrees) -> bool
     ensures { λ r. ⌜ ((t : List ℕ) (i : ℕ) → Counts t i d → r ≡ meetsIn t i) ⌝ }
 {
@@ -601,6 +612,7 @@ fn shape_fine(k: usize, d: Degrees, fed: u8, ended: u8) -> bool
     }
 }
 
+// The lowest node that row 4 refuses. Edges are counted and chains followed once for all nodes, so that each node is judged from its own cells.
 fn bad_shape(s: &[u8], table: Table) -> Found
     requires { ⌜ Spans (now s) table × NodesFine (now s) × EdgesFine (now s) ⌝ }
     ensures { λ r. ⌜ found r ≡ lowest (λ i. not (shapeFine (now (s .entry)) i)) (nodes (now (s .entry))) ⌝ }
@@ -621,7 +633,7 @@ fn bad_shape(s: &[u8], table: Table) -> Found
     Found::Nothing
 }
 
-// Rows 1 to 4.
+// The table in the bytes, or the first of rows 1 to 4 that refuses it.
 pub fn read(s: &[u8]) -> TableAnswer
     ensures { λ r. ⌜ said r ≡ tableRead (now (s .entry)) ⌝ }
 {

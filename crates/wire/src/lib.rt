@@ -3,7 +3,9 @@
 ghost use mathlib.Core.Path.{_≡_};
 ghost use Prim.Native.Nat.{_+_, _*_, _^_, _≤_, _<_};
 ghost use lib.ListN.{length};
+ghost use lib.Seq.{sets};
 ghost use Rattle.paper.specs.Lists.{at};
+ghost use Rattle.paper.specs.Bytes.{two};
 ghost use Rattle.paper.specs.Operations.{packed};
 
 // A byte as a number that can be an index.
@@ -19,6 +21,15 @@ pub fn read16(s: &[u8], from: usize) -> usize
     ensures { λ r. ⌜ (r ≡ at (now (s .entry)) from * 256 + at (now (s .entry)) (from + 1)) × (r < 65536) ⌝ }
 {
     wide(s[from]) * 256 + wide(s[from + 1])
+}
+
+// A number in two bytes from a place on, big-endian.
+pub fn write16(d: &mut [u8], at: usize, v: usize)
+    requires { ⌜ at + 2 ≤ length (now d) ⌝ }
+    ensures { λ _. ⌜ now (d .exit) ≡ sets (now (d .entry)) at (two v) ⌝ }
+{
+    d[at] = (v / 256 % 256) as u8;
+    d[at + 1] = (v % 256) as u8;
 }
 
 // The weight of a refusal's number in a packed answer, 2 ^ 48, and of its place, 2 ^ 32. The length stands below them.

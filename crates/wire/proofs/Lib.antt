@@ -1,0 +1,2 @@
+-- Laws that proofs of writers cite.
+pub mod Laws
