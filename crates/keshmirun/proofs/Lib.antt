@@ -1,2 +1,4 @@
 -- Laws of the operations' ladders.
 pub mod Ladders
+pub mod Delivering
+pub mod Finishing

@@ -1,8 +1,8 @@
 // Reads calls as bytes from standard input and writes each answer as a line, so that outside vectors can be held to the library.
 //
-// A call is its operation (0 check), the room to lend (2 bytes), a node or action (1 byte), then four slices, each a 2-byte length and its bytes: table, marking,
+// A call is its operation (0 check, 1 start, 5 finish), the room to lend (2 bytes), a node or action (1 byte), then four slices, each a 2-byte length and its bytes: table, marking,
 // guards or values, choice. What an operation doesn't take is empty. A line is the refusal, the place and the reply in hex, `-` where it is empty.
-ghost use Prim.Native.Nat.{_≤_};
+ghost use Prim.Native.Nat.{_≤_, _<_};
 ghost use lib.ListN.{length};
 use libc::STDIN_FILENO;
 use libc::STDOUT_FILENO;
@@ -10,16 +10,49 @@ use libc::STDOUT_FILENO;
 // How many calls are answered at most: a program ends.
 const MOST_CALLS: usize = 1000000;
 
+const START: u8 = 1;
+
+const FINISH: u8 = 5;
+
 fn number(n: u64) {
     io::print_decimal(STDOUT_FILENO, n);
     io::write_all(STDOUT_FILENO, b" ");
 }
 
-// The answer word as a line; check's reply is empty.
-fn line(word: u64) {
+// A hexadecimal digit.
+fn digit(n: u8) -> u8
+    requires { ⌜ n < 16 ⌝ }
+{
+    if n < 10 {
+        return 48 + n;
+    }
+    87 + n
+}
+
+// The bytes in hex.
+fn hex(bytes: &[u8]) {
+    let mut i: usize = 0;
+    while i < bytes.len() {
+        let x = bytes[i];
+        let pair = [digit(x / 16), digit(x % 16)];
+        io::write_all(STDOUT_FILENO, &pair);
+        i += 1;
+    }
+}
+
+// The answer word and its reply as a line.
+fn line(word: u64, out: &[u8]) {
     number(word / 281474976710656);
     number(word / 4294967296 % 65536);
-    io::write_all(STDOUT_FILENO, b"-\n");
+    let n = (word % 4294967296) as usize;
+    if n == 0 {
+        io::write_all(STDOUT_FILENO, b"-\n");
+        return;
+    }
+    if n <= out.len() {
+        hex(&out[..n]);
+    }
+    io::write_all(STDOUT_FILENO, b"\n");
 }
 
 // Reads a slice into space and answers how many bytes there are.
@@ -35,25 +68,49 @@ fn slice(space: &mut [u8]) -> usize
     io::read_full(STDIN_FILENO, &mut space[..n])
 }
 
+// Answers a call: start and finish by their numbers, otherwise check.
+fn answer(operation: u8, node: u8, table: &[u8], marking: &[u8], values: &[u8], out: &mut [u8]) {
+    if operation == START {
+        line(keshmirun::start(table, values, out), out);
+        return;
+    }
+    if operation == FINISH {
+        line(keshmirun::finish(table, marking, node, values, out), out);
+        return;
+    }
+    line(keshmirun::check(table), out);
+}
+
 // Reads a call and answers it; false where there is none left.
-fn call(table: &mut [u8], other: &mut [u8]) -> bool {
+fn call(table: &mut [u8], marking: &mut [u8], values: &mut [u8], out: &mut [u8]) -> bool {
     let mut head = [0u8; 4];
     if io::read_full(STDIN_FILENO, &mut head) < 4 {
         return false;
     }
+    let room = wire::wide(head[1]) * 256 + wire::wide(head[2]);
     let n = slice(table);
-    slice(other);
-    slice(other);
-    slice(other);
-    line(keshmirun::check(&table[..n]));
+    let m = slice(marking);
+    let v = slice(values);
+    slice(out);
+    if out.len() < room {
+        return false;
+    }
+    answer(
+        head[0],
+        head[3],
+        &table[..n],
+        &marking[..m],
+        &values[..v],
+        &mut out[..room],
+    );
     true
 }
 
 // Answers call after call.
-fn run(table: &mut [u8], other: &mut [u8]) {
+fn run(table: &mut [u8], marking: &mut [u8], values: &mut [u8], out: &mut [u8]) {
     let mut left = MOST_CALLS;
     while 0 < left {
-        if !call(table, other) {
+        if !call(table, marking, values, out) {
             return;
         }
         left -= 1;
@@ -62,6 +119,8 @@ fn run(table: &mut [u8], other: &mut [u8]) {
 
 fn main() {
     let mut table = io::large_buffer();
-    let mut other = io::large_buffer();
-    run(&mut table, &mut other);
+    let mut marking = io::large_buffer();
+    let mut values = io::large_buffer();
+    let mut out = io::large_buffer();
+    run(&mut table, &mut marking, &mut values, &mut out);
 }

@@ -1,4 +1,5 @@
 -- `call` hands on just the bytes that were read. Assumes nothing.
+use Prim.Native.Nat.{_+_, _*_}
 use native.Mathlib.Omega.{arith}
 use lib.ListN.{length-take}
 use borrow.Author.Needs.{needs}
@@ -14,6 +15,24 @@ read-full-requires c κs = search needs
 returns : tie.Need-returns
 returns c = search needs
 
+array-read-wide : tie.Need-array-read-wide
+array-read-wide c = search needs
+
+wide-requires : tie.Need-wide-requires
+wide-requires c κs = search needs
+
+mul-room : tie.Need-mul-room
+mul-room c = search needs
+
+array-read-wide-2 : tie.Need-array-read-wide-2
+array-read-wide-2 c = search needs
+
+wide-requires-2 : tie.Need-wide-requires-2
+wide-requires-2 c κs = search needs
+
+add-room : tie.Need-add-room
+add-room c = search needs
+
 slice-requires : tie.Need-slice-requires
 slice-requires c κs = search needs
 
@@ -26,26 +45,68 @@ slice-requires-3 c κs = search needs
 slice-requires-4 : tie.Need-slice-requires-4
 slice-requires-4 c κs = search needs
 
-slice-reshare-prefix-check : tie.Need-slice-reshare-prefix-check
-slice-reshare-prefix-check c = search needs
-
-slice-aggregate-check : tie.Need-slice-aggregate-check
-slice-aggregate-check c = omega (arith, length-take (c .before .before .before .before .before .before .before .before .before .before .before .before .before .before .before .slice .result) (c .before .before .before .before .before .before .before .before .before .before .before .before .before .before .before .slice .last .0), c .before .before .before .before .before .before .before .before .before .before .before .before .before .before .before .slice .ensures)
-
-check-requires : tie.Need-check-requires
-check-requires c κs = search needs
-
-line-requires : tie.Need-line-requires
-line-requires c κs = search needs
-
 same-length : tie.Need-same-length
 same-length c = search needs
 
 same-length-2 : tie.Need-same-length-2
 same-length-2 c = search needs
 
+same-length-3 : tie.Need-same-length-3
+same-length-3 c = search needs
+
+same-length-4 : tie.Need-same-length-4
+same-length-4 c = search needs
+
 returns-2 : tie.Need-returns-2
 returns-2 c = search needs
+
+array-read-answer : tie.Need-array-read-answer
+array-read-answer c = search needs
+
+array-read-answer-2 : tie.Need-array-read-answer-2
+array-read-answer-2 c = search needs
+
+slice-reshare-prefix-answer : tie.Need-slice-reshare-prefix-answer
+slice-reshare-prefix-answer c = search needs
+
+slice-aggregate-answer : tie.Need-slice-aggregate-answer
+slice-aggregate-answer c = omega (arith, length-take (c .before .before .before .before .before .before .before .before .before .before .before .before .before .before .before .before .slice .result) (c .before .before .before .before .before .before .before .before .before .before .before .before .before .before .before .before .slice .last .0), c .before .before .before .before .before .before .before .before .before .before .before .before .before .before .before .before .slice .ensures)
+
+slice-reshare-prefix-answer-2 : tie.Need-slice-reshare-prefix-answer-2
+slice-reshare-prefix-answer-2 c = search needs
+
+slice-aggregate-answer-2 : tie.Need-slice-aggregate-answer-2
+slice-aggregate-answer-2 c = omega (arith, length-take (c .before .before .before .before .before .before .before .before .before .before .before .before .before .slice2 .result) (c .before .before .before .before .before .before .before .before .before .before .before .before .before .slice2 .last .0), c .before .before .before .before .before .before .before .before .before .before .before .before .before .slice2 .ensures)
+
+slice-reshare-prefix-answer-3 : tie.Need-slice-reshare-prefix-answer-3
+slice-reshare-prefix-answer-3 c = search needs
+
+slice-aggregate-answer-3 : tie.Need-slice-aggregate-answer-3
+slice-aggregate-answer-3 c = omega (arith, length-take (c .before .before .before .before .before .before .before .before .before .before .slice3 .result) (c .before .before .before .before .before .before .before .before .before .before .slice3 .last .0), c .before .before .before .before .before .before .before .before .before .before .slice3 .ensures)
+
+slice-relend-prefix-answer : tie.Need-slice-relend-prefix-answer
+slice-relend-prefix-answer c = search needs
+
+slice-aggregate-answer-4 : tie.Need-slice-aggregate-answer-4
+slice-aggregate-answer-4 c = omega (arith, length-take (c .before .before .before .before .before .before .before .before .before .before .before .before .before .before .before .before .before .before .before .before .before .before .wide .result * 256 + c .before .before .before .before .before .before .before .before .before .before .before .before .before .before .before .before .before .before .before .before .before .wide2 .result) (c .before .before .before .before .before .before .before .slice4 .last .0))
+
+answer-requires : tie.Need-answer-requires
+answer-requires c κs = search needs
+
+same-length-5 : tie.Need-same-length-5
+same-length-5 c = search needs
+
+same-length-6 : tie.Need-same-length-6
+same-length-6 c = search needs
+
+same-length-7 : tie.Need-same-length-7
+same-length-7 c = search needs
+
+same-length-8 : tie.Need-same-length-8
+same-length-8 c = search needs
+
+returns-3 : tie.Need-returns-3
+returns-3 c = search needs
 
 pub call-spec : {M : Type 1} → statement M
 call-spec =
@@ -54,14 +115,34 @@ call-spec =
     slice-aggregate-read-full
     read-full-requires
     returns
+    array-read-wide
+    wide-requires
+    mul-room
+    array-read-wide-2
+    wide-requires-2
+    add-room
     slice-requires
     slice-requires-2
     slice-requires-3
     slice-requires-4
-    slice-reshare-prefix-check
-    slice-aggregate-check
-    check-requires
-    line-requires
     same-length
     same-length-2
-    returns-2)
+    same-length-3
+    same-length-4
+    returns-2
+    array-read-answer
+    array-read-answer-2
+    slice-reshare-prefix-answer
+    slice-aggregate-answer
+    slice-reshare-prefix-answer-2
+    slice-aggregate-answer-2
+    slice-reshare-prefix-answer-3
+    slice-aggregate-answer-3
+    slice-relend-prefix-answer
+    slice-aggregate-answer-4
+    answer-requires
+    same-length-5
+    same-length-6
+    same-length-7
+    same-length-8
+    returns-3)

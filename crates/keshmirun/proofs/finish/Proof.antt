@@ -1,0 +1,156 @@
+-- `finish`: rows 1 to 6 and 14, then what `conclude` leaves. Assumes nothing.
+use mathlib.Core.Path.{refl, sym, ap, _∙_}
+use native.Mathlib.Omega.{arith}
+use borrow.Author.Tests.{not-true, not-false}
+use Rattle.table.specs.Reading.{said}
+use Rattle.table.proofs.Reading.{read-spans, most-nodes, most-edges}
+use Rattle.keshmirun.proofs.Finishing.{live-read, placed, running-node, finish-refused, finish-5, finish-6, finish-14, finish-delivers}
+use borrow.Author.Needs.{needs}
+use Rattle.keshmirun.proofs.finish.Statement.{statement}
+use Rattle.keshmirun.proofs.finish.Tie as tie
+
+read-requires : tie.Need-read-requires
+read-requires c κs = search needs
+
+enum-known-x : tie.Need-enum-known-x
+enum-known-x c = search needs
+
+enum-known-number : tie.Need-enum-known-number
+enum-known-number c = search needs
+
+pack-requires : tie.Need-pack-requires
+pack-requires c κs = search needs
+
+returns : tie.Need-returns
+returns c =
+    let a = c .before .before .before .before .before .before .before .before .before .args in
+    let e = sym (c .before .before .before .before .read .ensures) ∙ ap said (c .before .before .number .given .1) in
+    record { answer = _; allowed = sym (finish-refused (a .table .now) (a .marking .now) (a .action) (a .values .now) _ _ e); reply = (c .pack .ensures, refl) }
+
+slice-aggregate-read : tie.Need-slice-aggregate-read
+slice-aggregate-read c = search needs
+
+slice-aggregate-read-2 : tie.Need-slice-aggregate-read-2
+slice-aggregate-read-2 c = search needs
+
+read-requires-2 : tie.Need-read-requires-2
+read-requires-2 c κs =
+    let a = c .before .before .before .before .before .before .before .before .before .before .args in
+    let t = a .table .now in
+    let e = sym (c .before .before .before .before .before .read .ensures) ∙ ap said (c .before .before .before .x .given .1) in
+    (e, most-nodes t e, most-edges t e)
+
+enum-told : tie.Need-enum-told
+enum-told c = search needs
+
+enum-told-2 : tie.Need-enum-told-2
+enum-told-2 c = search needs
+
+pack-requires-2 : tie.Need-pack-requires-2
+pack-requires-2 c κs = search needs
+
+returns-2 : tie.Need-returns-2
+returns-2 c =
+    let a = c .before .before .before .before .before .before .before .before .before .before .before .before .before .before .before .before .args in
+    let t = a .table .now in
+    let e = sym (c .before .before .before .before .before .before .before .before .before .before .before .read .ensures) ∙ ap said (c .before .before .before .before .before .before .before .before .before .x .given .1) in
+    let h = rw (c .before .enum-told2 .given .1) at (c .before .before .before .before .before .read2 .ensures) in
+    record { answer = _; allowed = sym (finish-6 t (a .marking .now) (a .action) (a .values .now) e (c .before .before .before .before .before .read2 .last .1 .1 .1 .0) (c .before .before .before .before .before .read2 .last .1 .1 .1 .1 .0) h); reply = (c .pack2 .ensures, refl) }
+
+enum-known-number-2 : tie.Need-enum-known-number-2
+enum-known-number-2 c = search needs
+
+pack-requires-3 : tie.Need-pack-requires-3
+pack-requires-3 c κs = search needs
+
+returns-3 : tie.Need-returns-3
+returns-3 c =
+    let a = c .before .before .before .before .before .before .before .before .before .before .before .before .before .before .before .before .before .args in
+    let t = a .table .now in
+    let e = sym (c .before .before .before .before .before .before .before .before .before .before .before .before .read .ensures) ∙ ap said (c .before .before .before .before .before .before .before .before .before .before .x .given .1) in
+    let h = rw (c .before .before .number2 .given .1) at (c .before .before .before .before .before .before .read2 .ensures) in
+    record { answer = _; allowed = sym (finish-5 t (a .marking .now) (a .action) (a .values .now) e (c .before .before .before .before .before .before .read2 .last .1 .1 .1 .0) (c .before .before .before .before .before .before .read2 .last .1 .1 .1 .1 .0) _ _ h); reply = (c .pack3 .ensures, refl) }
+
+wide-requires : tie.Need-wide-requires
+wide-requires c κs = search needs
+
+slice-aggregate-is-running : tie.Need-slice-aggregate-is-running
+slice-aggregate-is-running c = search needs
+
+is-running-requires : tie.Need-is-running-requires
+is-running-requires c κs =
+    let a = c .before .before .before .before .before .before .before .before .before .before .before .before .before .before .before .before .before .args in
+    let t = a .table .now in
+    let e = sym (c .before .before .before .before .before .before .before .before .before .before .before .before .read .ensures) ∙ ap said (c .before .before .before .before .before .before .before .before .before .before .x .given .1) in
+    let l = live-read t (a .marking .now) (c .before .before .before .before .before .before .read2 .last .1 .1 .1 .0) (c .before .before .before .before .before .before .read2 .last .1 .1 .1 .1 .0) (c .before .before .before .before .before .before .read2 .result) (c .before .before .enum-told .given .1) (c .before .before .before .before .before .before .read2 .ensures) in
+    (e, placed t (a .marking .now) (read-spans t e) l (omega (arith, most-nodes t e, c .before .before .before .before .before .before .read2 .kept)))
+
+pack-requires-4 : tie.Need-pack-requires-4
+pack-requires-4 c κs = search needs
+
+returns-4 : tie.Need-returns-4
+returns-4 c =
+    let a = c .before .before .before .before .before .before .before .before .before .before .before .before .before .before .before .before .before .before .before .before .args in
+    let t = a .table .now in
+    let e = sym (c .before .before .before .before .before .before .before .before .before .before .before .before .before .before .before .read .ensures) ∙ ap said (c .before .before .before .before .before .before .before .before .before .before .before .before .before .x .given .1) in
+    let l = live-read t (a .marking .now) (c .before .before .before .before .before .before .before .before .before .read2 .last .1 .1 .1 .0) (c .before .before .before .before .before .before .before .before .before .read2 .last .1 .1 .1 .1 .0) (c .before .before .before .before .before .before .before .before .before .read2 .result) (c .before .before .before .before .before .enum-told .given .1) (c .before .before .before .before .before .before .before .before .before .read2 .ensures) in
+    let n = sym (c .before .before .is-running .ensures (l .current) (l .nodes-noted)) ∙ not-true _ (c .before .if1 .taken) in
+    record { answer = _; allowed = sym (finish-14 t (a .marking .now) (a .action) (a .values .now) e l (rw (c .before .before .before .before .wide .ensures .0) at n)); reply = (c .pack4 .ensures, refl) }
+
+slice-aggregate-conclude : tie.Need-slice-aggregate-conclude
+slice-aggregate-conclude c = search needs
+
+slice-aggregate-conclude-2 : tie.Need-slice-aggregate-conclude-2
+slice-aggregate-conclude-2 c = search needs
+
+conclude-requires : tie.Need-conclude-requires
+conclude-requires c κs =
+    let a = c .before .before .before .before .before .before .before .before .before .before .before .before .before .before .before .before .before .before .before .before .before .before .args in
+    let t = a .table .now in
+    let e = sym (c .before .before .before .before .before .before .before .before .before .before .before .before .before .before .before .before .before .read .ensures) ∙ ap said (c .before .before .before .before .before .before .before .before .before .before .before .before .before .before .before .x .given .1) in
+    let l = live-read t (a .marking .now) (c .before .before .before .before .before .before .before .before .before .before .before .read2 .last .1 .1 .1 .0) (c .before .before .before .before .before .before .before .before .before .before .before .read2 .last .1 .1 .1 .1 .0) (c .before .before .before .before .before .before .before .before .before .before .before .read2 .result) (c .before .before .before .before .before .before .before .enum-told .given .1) (c .before .before .before .before .before .before .before .before .before .before .before .read2 .ensures) in
+    let n = sym (c .before .before .before .before .is-running .ensures (l .current) (l .nodes-noted)) ∙ not-false _ (c .before .before .before .if1 .left) in
+    (e, omega (arith, running-node t (l .current) _ n, read-spans t e .nodes-read), omega (arith, most-nodes t e, c .before .before .before .before .before .before .before .before .before .before .before .read2 .kept), omega (arith, most-edges t e, c .before .before .before .before .before .before .before .before .before .before .before .read2 .kept), l)
+
+same-length : tie.Need-same-length
+same-length c = search needs
+
+returns-5 : tie.Need-returns-5
+returns-5 c =
+    let a = c .before .before .before .before .before .before .before .before .before .before .before .before .before .before .before .before .before .before .before .before .before .before .before .before .before .args in
+    let t = a .table .now in
+    let e = sym (c .before .before .before .before .before .before .before .before .before .before .before .before .before .before .before .before .before .before .before .before .read .ensures) ∙ ap said (c .before .before .before .before .before .before .before .before .before .before .before .before .before .before .before .before .before .before .x .given .1) in
+    let l = live-read t (a .marking .now) (c .before .before .before .before .before .before .before .before .before .before .before .before .before .before .read2 .last .1 .1 .1 .0) (c .before .before .before .before .before .before .before .before .before .before .before .before .before .before .read2 .last .1 .1 .1 .1 .0) (c .before .before .before .before .before .before .before .before .before .before .before .before .before .before .read2 .result) (c .before .before .before .before .before .before .before .before .before .before .enum-told .given .1) (c .before .before .before .before .before .before .before .before .before .before .before .before .before .before .read2 .ensures) in
+    let n = sym (c .before .before .before .before .before .before .before .is-running .ensures (l .current) (l .nodes-noted)) ∙ not-false _ (c .before .before .before .before .before .before .if1 .left) in
+    let w = c .before .before .before .before .before .before .before .before .before .wide .ensures .0 in
+    record { answer = _; allowed = sym (finish-delivers t (a .marking .now) (a .action) (a .values .now) e l (rw w at n)); reply = rw w at (c .before .before .conclude .ensures l) }
+
+pub finish-spec : {M : Type 1} → statement M
+finish-spec =
+    tie.close
+    (tie.spec
+    read-requires
+    enum-known-x
+    enum-known-number
+    pack-requires
+    returns
+    slice-aggregate-read
+    slice-aggregate-read-2
+    read-requires-2
+    enum-told
+    enum-told-2
+    pack-requires-2
+    returns-2
+    enum-known-number-2
+    pack-requires-3
+    returns-3
+    wide-requires
+    slice-aggregate-is-running
+    is-running-requires
+    pack-requires-4
+    returns-4
+    slice-aggregate-conclude
+    slice-aggregate-conclude-2
+    conclude-requires
+    same-length
+    returns-5)

@@ -1,0 +1,458 @@
+-- Laws of reading at a place: what a field's reader answers, and what is then noted. Assumes nothing.
+use mathlib.Core.Path.{_≡_, refl, sym, ap, ap₂, _∙_}
+use Prim.Native.Nat.{ℕ, zero, suc, _+_, _-_, _*_, _≤_, _<_}
+use native.Mathlib.Omega.{arith}
+use native.Mathlib.Nat.{zero-add, add-zero, add-suc, suc-add}
+use native.Mathlib.Numerals.{add-one}
+use mathlib.Core.Bool.{Bool, true, false, not, _&&_, _||_, cond}
+use mathlib.Core.Logic.{_⊎_, inl, inr, ⊎-elim}
+use mathlib.Core.List.{List, [], _∷_, _++_, append-nil, append-assoc}
+use mathlib.Core.Option.{Option, none, some}
+use lib.Dec.{leb, ltb, eqb}
+use lib.ListN.{length, drop, set, length-drop}
+use lib.Seq.{getD-set-same, getD-set-other, getD-drop, drop-cons}
+use borrow.Author.Tests.{eq-eqb, ne-eqb, eqb-true, eqb-false, ltb-true, le-leb, lt-leb}
+use Rattle.paper.specs.Lists.{at, all, from, below, keep, each, gather, oneIf, _⇒_}
+use Rattle.paper.specs.Answers.{refused, good}
+use Rattle.paper.specs.Bytes.{goOn, _>>=_, done, fail, whole, framed, byte, valuesRead, upTo, four, listed}
+use Rattle.paper.specs.Table.{nodes, edges, nodeFine, isPin, isOutgoing, kind, owner, lower, upper, isInput, edgeKind, source, isInitial, isObjectNode, isAction}
+use Rattle.paper.specs.Marking.{Marking, blank, Field, stockOf, runsOf, tokensOf, written, counted, nodeFields, fieldRead, fieldsRead, layout, pinFine, cleared, markingFine, markingRead, marking}
+use Rattle.paper.proofs.Members.{In, Distinct, in-none, in-one}
+use Rattle.paper.proofs.Lengths.{gather-append, drop-head}
+use Rattle.paper.proofs.Counts.{all-append, all-gather}
+use Rattle.paper.proofs.Fields.{fields-append, node-once, node-only, not-both}
+use Rattle.paper.proofs.Bools.{never, and-true, false-if}
+use Rattle.paper.proofs.Lists.{all-below, below-more, below-split}
+use Rattle.paper.proofs.Tables.{NodeFields}
+use Rattle.paper.proofs.Bytes.{Bytes, never-some, same-read, went-on}
+use Rattle.paper.proofs.Cursor.{byte-at, byte-none}
+use Rattle.paper.proofs.OneMarking.{Taken, fields-are, contentRead, put, put-ended, field-reads}
+use Rattle.marking.specs.Reading.{Reads, NodeNoted, EdgeNoted, NodesNoted, EdgesNoted, NodesPlaced, EdgesPlaced, edgeFields, nodeClear, edgeClear, Head, Walked, Walk, said, MarkingRead}
+use Rattle.marking.specs.declared.reading.MarkingAnswer.{MarkingAnswer}
+use Rattle.marking.specs.declared.reading.Next.{Next}
+use Rattle.marking.specs.declared.reading.Next.the-variants.{At, Bad}
+
+-- what is read, made into something else
+pub reads-as : {A B : Type 0} (f : A → B) (r : Next) (o : Option (A × List ℕ)) (b : List ℕ) → Reads r o b → Reads r (goOn o (λ x. done (f x))) b
+reads-as f (At q) o b h = (f (h .0), rw (h .1), h .2)
+reads-as f Bad o b h = rw h
+
+-- ---- a node's field
+module _ (t : List ℕ) (i : ℕ) (m : Marking) (r : Next) (b rest : List ℕ) where
+  pub stock-reads : isObjectNode (kind t i) ≡ true → Reads r (valuesRead (upper t i) rest) b → Reads r (fieldsRead t (nodeFields t i) m rest) b
+  unfolding fieldRead
+  stock-reads e h = rw e (reads-as (λ x. x) r _ b (reads-as _ r (valuesRead (upper t i) rest) b h))
+
+  pub runs-reads : isObjectNode (kind t i) ≡ false → isAction (kind t i) ≡ true → Reads r (upTo 1 rest) b → Reads r (fieldsRead t (nodeFields t i) m rest) b
+  unfolding fieldRead
+  runs-reads e a h = rw (e, a) (reads-as (λ x. x) r _ b (reads-as _ r (upTo 1 rest) b h))
+
+pub no-field : (t : List ℕ) (i : ℕ) (m : Marking) (rest : List ℕ) → isObjectNode (kind t i) ≡ false → isAction (kind t i) ≡ false → fieldsRead t (nodeFields t i) m rest ≡ some (m, rest)
+no-field t i m rest e a = rw (e, a)
+
+-- a field of node i or of edge i is none of another
+abbrev numbered : ℕ → Field → Bool
+numbered i (stockOf n) = eqb n i
+numbered i (runsOf n) = eqb n i
+numbered i (tokensOf n) = eqb n i
+
+other-field : (i : ℕ) (g f : Field) → numbered i g ≡ false → numbered i f ≡ true → g ≡ f → ⊥
+other-field i g f n y e = never (numbered i f) y (ap (numbered i) (sym e) ∙ n)
+
+-- ---- a run of fields, F i the i-th, each noted where it was read: N m i p, where m is the marking so far and p the place
+pub record Run (t b : List ℕ) (F : ℕ → List Field) (N : Marking → ℕ → ℕ → Type 0) : Type 0 where
+  pub once : (i : ℕ) → Distinct (F i)
+  pub here : (i p q : ℕ) (a m : Marking) → Taken t (F i) a (drop p b) m (drop q b) → N m i p
+  pub still : (i k p : ℕ) (a m : Marking) (c d : List ℕ) → eqb k i ≡ false → Taken t (F i) a c m d → N a k p → N m k p
+
+-- from marking a and place o on, the first i are read into m, and the bytes after them start at p
+pub record SoFar (t b : List ℕ) (F : ℕ → List Field) (N : Marking → ℕ → ℕ → Type 0) (a : Marking) (o : ℕ) (places : List ℕ) (p i : ℕ) : Type 0 where
+  pub m : Marking
+  pub read : fieldsRead t (gather F (below i)) a (drop o b) ≡ some (m, drop p b)
+  pub noted : (k : ℕ) → k < i → N m k (at places k)
+
+module _ {t b : List ℕ} {F : ℕ → List Field} {N : Marking → ℕ → ℕ → Type 0} (r : Run t b F N) (a : Marking) (o : ℕ) where
+  pub run-begin : (places : List ℕ) → SoFar t b F N a o places o 0
+  run-begin places = record { m = a; read = refl; noted = λ k l. absurd (omega arith) }
+
+  pub run-step : Bytes b → (places : List ℕ) (p q i : ℕ) → i < length places → SoFar t b F N a o places p i
+      → ((m : Marking) → Reads (At q) (fieldsRead t (F i) m (drop p b)) b) → SoFar t b F N a o (set places i p) q (i + 1)
+  run-step u places p q i l s h =
+      let x = h (s .m) in
+      let w = fields-are t (F i) (s .m) (drop p b) (x .0) (drop q b) (r .once i) (λ k. rw (getD-drop p b k 0) (u (p + k))) (x .1) in
+      record {
+        m = x .0;
+        read = rw (below-more i, gather-append F (below i) (i ∷ []), append-nil (F i), fields-append, s .read) (x .1);
+        noted = λ k n. by k (eqb k i) refl n (s .m) (x .0) w (s .noted);
+      }
+    where
+      by : (k : ℕ) (c : Bool) → eqb k i ≡ c → k < i + 1 → (a m : Marking) → Taken t (F i) a (drop p b) m (drop q b) → ((k : ℕ) → k < i → N a k (at places k)) → N m k (at (set places i p) k)
+      by k true e n a m w z = rw (eqb-true k i e, getD-set-same places i p 0 l) (r .here i p q a m w)
+      by k false e n a m w z =
+          let d : k ≡ i → ⊥ = eqb-false k i e in
+          rw (getD-set-other places i k p 0 d) (r .still i k (at places k) a m _ _ e w (z k (omega arith)))
+
+  pub run-cut : (places : List ℕ) (p i n : ℕ) → i < n → SoFar t b F N a o places p i
+      → ((m : Marking) → fieldsRead t (F i) m (drop p b) ≡ none) → fieldsRead t (gather F (below n)) a (drop o b) ≡ none
+  run-cut places p i n l s h =
+      rw (below-split i n l, gather-append F (below i) (i ∷ from (suc i) (n - suc i)), fields-append, s .read, fields-append, h (s .m))
+
+-- ---- the nodes' fields
+module _ (t b : List ℕ) where
+  node-here : (i p q : ℕ) (a m : Marking) → Taken t (nodeFields t i) a (drop p b) m (drop q b) → NodeNoted t m b i p
+  unfolding written
+  node-here i p q a m k = record {
+    stock = λ o. (drop q b, rw o at (k .stand .parts) ∙ ap (λ (l : List ℕ). l ++ drop q b) (append-nil (listed (m .stock i))));
+    runs = λ r. drop-head b (drop q b) p (oneIf (m .runs i)) (rw (not-both (kind t i) r, r) at (k .stand .parts));
+  }
+
+  node-still : (i k p : ℕ) (a m : Marking) (c d : List ℕ) → eqb k i ≡ false → Taken t (nodeFields t i) a c m d → NodeNoted t a b k p → NodeNoted t m b k p
+  node-still i k p a m c d n w h =
+      let s : a .stock k ≡ m .stock k = w .kept (stockOf k) (node-only t i (stockOf k) n) in
+      let r : a .runs k ≡ m .runs k = w .kept (runsOf k) (node-only t i (runsOf k) n) in
+      record { stock = λ o. rw s at (h .stock o); runs = λ o. rw r at (h .runs o) }
+
+  pub node-run : Run t b (nodeFields t) (λ m k p. NodeNoted t m b k p)
+  node-run = record { once = node-once t; here = node-here; still = node-still }
+
+-- ---- the edges' counts
+pub object-uncounted : (t : List ℕ) (j : ℕ) → edgeKind t j ≡ 1 → counted t j ≡ false
+unfolding counted
+object-uncounted t j e = rw e
+
+pub counted-by : (t : List ℕ) (j : ℕ) → (edgeKind t j ≡ 1 → ⊥) → counted t j ≡ isInitial (kind t (source t j)) || isAction (kind t (source t j))
+unfolding counted
+counted-by t j n = rw (ne-eqb (edgeKind t j) 1 n)
+
+module _ (t : List ℕ) (j : ℕ) (m : Marking) (b : List ℕ) (p : ℕ) where
+  pub uncounted-reads : counted t j ≡ false → fieldsRead t (edgeFields t j) m (drop p b) ≡ some (m, drop p b)
+  uncounted-reads c = rw c
+
+  pub counted-reads : counted t j ≡ true → p < length b → Reads (At (p + 1)) (fieldsRead t (edgeFields t j) m (drop p b)) b
+  unfolding fieldRead
+  counted-reads c l = rw c (reads-as (λ x. x) (At (p + 1)) _ b (reads-as _ (At (p + 1)) (byte (drop p b)) b (at b p, byte-at b p l, omega arith)))
+
+  pub counted-none : counted t j ≡ true → length b ≤ p → fieldsRead t (edgeFields t j) m (drop p b) ≡ none
+  unfolding fieldRead
+  counted-none c l = rw (c, byte-none b p l)
+
+edge-once : (t : List ℕ) (j : ℕ) → Distinct (edgeFields t j)
+edge-once t j = by (counted t j)
+  where
+    by : (c : Bool) → Distinct (cond c (tokensOf j ∷ []) [])
+    by true = (λ m. in-none m, tt)
+    by false = tt
+
+edge-only : (t : List ℕ) (j : ℕ) (g : Field) → numbered j g ≡ false → In g (edgeFields t j) → ⊥
+edge-only t j g n = by (counted t j)
+  where
+    by : (c : Bool) → In g (cond c (tokensOf j ∷ []) []) → ⊥
+    by true m = other-field j g (tokensOf j) n (eq-eqb j j refl) (in-one m)
+    by false m = in-none m
+
+module _ (t b : List ℕ) where
+  edge-here : (j p q : ℕ) (a m : Marking) → Taken t (edgeFields t j) a (drop p b) m (drop q b) → EdgeNoted t m b j p
+  unfolding written
+  edge-here j p q a m k = record { count = λ c. drop-head b (drop q b) p (m .tokens j) (rw c at (k .stand .parts)) }
+
+  edge-still : (j k p : ℕ) (a m : Marking) (c d : List ℕ) → eqb k j ≡ false → Taken t (edgeFields t j) a c m d → EdgeNoted t a b k p → EdgeNoted t m b k p
+  edge-still j k p a m c d n w h =
+      let s : a .tokens k ≡ m .tokens k = w .kept (tokensOf k) (edge-only t j (tokensOf k) n) in
+      record { count = λ o. rw s at (h .count o) }
+
+  pub edge-run : Run t b (edgeFields t) (λ m k p. EdgeNoted t m b k p)
+  edge-run = record { once = edge-once t; here = edge-here; still = edge-still }
+
+-- ---- what stands at a place
+module _ {t b places : List ℕ} where
+  -- the count of a stock, and the running byte
+  pub held-at : {m : Marking} {n : ℕ} → NodesNoted t m b places n → (i : ℕ) → i < n → isObjectNode (kind t i) ≡ true → (at places i < length b) × (at b (at places i) ≡ length (m .stock i))
+  held-at {m} h i l o = let s = h .node i l .stock o in drop-head b (gather four (m .stock i) ++ s .0) (at places i) (length (m .stock i)) (s .1)
+
+  pub runs-at : {m : Marking} {n : ℕ} → NodesNoted t m b places n → (i : ℕ) → i < n → isAction (kind t i) ≡ true → (at places i < length b) × (at b (at places i) ≡ oneIf (m .runs i))
+  runs-at h i l a = h .node i l .runs a
+
+  pub tokens-at : {m : Marking} {n : ℕ} → EdgesNoted t m b places n → (j : ℕ) → j < n → counted t j ≡ true → (at places j < length b) × (at b (at places j) ≡ m .tokens j)
+  tokens-at h j l c = h .edge j l .count c
+
+  pub stock-place : NodesPlaced t b places → (i : ℕ) → i < nodes t → isObjectNode (kind t i) ≡ true → (i < length places) × (at places i < length b)
+  stock-place p i l o = (omega (arith, p .enough), let s = p .noted .node i l .stock o in drop-head b _ (at places i) _ (s .1) .0)
+
+  pub runs-place : NodesPlaced t b places → (i : ℕ) → i < nodes t → isAction (kind t i) ≡ true → (i < length places) × (at places i < length b)
+  runs-place p i l a = (omega (arith, p .enough), p .noted .node i l .runs a .0)
+
+  pub count-place : EdgesPlaced t b places → (j : ℕ) → j < edges t → counted t j ≡ true → (j < length places) × (at places j < length b)
+  count-place p j l c = (omega (arith, p .enough), p .noted .edge j l .count c .0)
+
+and-true-right : (b : Bool) → b && true ≡ b
+and-true-right true = refl
+and-true-right false = refl
+
+one-of : (r : Bool) (x : ℕ) → x ≡ oneIf r → x ≡ 1 → r ≡ true
+one-of true x e h = refl
+one-of false x e h = absurd (omega arith)
+
+zero-of : (r : Bool) (x : ℕ) → x ≡ oneIf r → (x ≡ 1 → ⊥) → r ≡ false
+zero-of true x e h = absurd (h e)
+zero-of false x e h = refl
+
+-- ---- a test of every number below n
+pub all-fails : (p : ℕ → Bool) (n k : ℕ) → k < n → p k ≡ false → all p (below n) ≡ false
+all-fails p n k l e = false-if (all p (below n)) (λ h. never (p k) (all-below p n h k l) e)
+
+-- ---- pins, and an ended marking
+module _ (t : List ℕ) (m : Marking) where
+  pub no-pin : (p : ℕ) → isInput (kind t p) ≡ false → pinFine t m p ≡ true
+  unfolding pinFine
+  no-pin p h = rw h
+
+  module _ (p : ℕ) (i : isInput (kind t p) ≡ true) where
+    pub pin-runs : (x : ℕ) → x ≡ oneIf (m .runs (owner t p)) → x ≡ 1 → pinFine t m p ≡ leb (lower t p) (length (m .stock p))
+    unfolding pinFine
+    pin-runs x e h = rw (i, one-of (m .runs (owner t p)) x e h)
+
+    pub pin-idle : (x : ℕ) → x ≡ oneIf (m .runs (owner t p)) → (x ≡ 1 → ⊥) → pinFine t m p ≡ eqb (length (m .stock p)) 0
+    unfolding pinFine
+    pin-idle x e h = rw (i, zero-of (m .runs (owner t p)) x e h)
+
+    -- a pin's action is one
+    pub pin-owner : NodeFields t p → (owner t p < nodes t) × (isAction (kind t (owner t p)) ≡ true)
+    pin-owner f =
+        let r = and-true (ltb (owner t p) (nodes t)) _ (rw (pins i) at (f .owner-fine)) in
+        (ltb-true _ _ (r .0), r .1)
+      where
+        pins : isInput (kind t p) ≡ true → isPin (kind t p) ≡ true
+        pins h = rw h
+
+  -- a node that holds a stock, an action, any other
+  pub stock-clear : (i : ℕ) → isObjectNode (kind t i) ≡ true → isOutgoing (kind t i) ≡ false → nodeClear t m i ≡ eqb (length (m .stock i)) 0
+  unfolding cleared
+  stock-clear i o n = rw (o, n) (and-true-right _)
+
+  pub outgoing-clear : (i : ℕ) → kind t i ≡ 7 → nodeClear t m i ≡ true
+  unfolding cleared
+  outgoing-clear i e =
+      let o : isObjectNode (kind t i) ≡ true = ap isObjectNode e in
+      let g : isOutgoing (kind t i) ≡ true = ap isOutgoing e in
+      rw (o, g)
+
+  pub action-clear : (i : ℕ) → kind t i ≡ 2 → (x : ℕ) → x ≡ oneIf (m .runs i) → nodeClear t m i ≡ eqb x 0
+  unfolding cleared
+  action-clear i e x h = rw (e, h) (by (m .runs i))
+    where
+      by : (r : Bool) → not r && true ≡ eqb (oneIf r) 0
+      by true = refl
+      by false = refl
+
+  pub other-clear : (i : ℕ) → isObjectNode (kind t i) ≡ false → isAction (kind t i) ≡ false → nodeClear t m i ≡ true
+  other-clear i o a = rw (o, a)
+
+  pub counted-clear : (j : ℕ) → counted t j ≡ true → edgeClear t m j ≡ eqb (m .tokens j) 0
+  unfolding cleared
+  counted-clear j c = rw c (and-true-right _)
+
+  pub uncounted-clear : (j : ℕ) → counted t j ≡ false → edgeClear t m j ≡ true
+  uncounted-clear j c = rw c
+
+-- ---- the head
+cond-none : {A : Type 0} (c : Bool) → _≡_ {A = Option A} (cond c none none) none
+cond-none true = refl
+cond-none false = refl
+
+pub framed-if : (b : List ℕ) (n : ℕ) → n ≡ at b 0 * 256 + at b 1 → n + 2 ≡ length b → framed b ≡ true
+framed-if b n e h = eq-eqb (at b 0 * 256 + at b 1 + 2) (length b) (omega arith)
+
+pub unframed-if : (b : List ℕ) (n : ℕ) → n ≡ at b 0 * 256 + at b 1 → (n + 2 ≡ length b → ⊥) → framed b ≡ false
+unframed-if b n e h = ne-eqb (at b 0 * 256 + at b 1 + 2) (length b) (λ k. h (omega arith))
+
+-- what is left of reading once the head is fine
+abbrev pub judged : List ℕ → Option (Marking × List ℕ) → Option Marking
+judged t none = none
+judged t (some x) = whole (cond (markingFine t (x .0)) (done (x .0)) fail (x .1))
+
+module _ (t : List ℕ) where
+  pub short-none : (b : List ℕ) → length b < 4 → marking t b ≡ none
+  unfolding marking markingRead
+  short-none [] l = cond-none (framed [])
+  short-none (x ∷ []) l = cond-none (framed (x ∷ []))
+  short-none (x ∷ (y ∷ [])) l = cond-none (framed (x ∷ y ∷ []))
+  short-none (x ∷ (y ∷ (v ∷ []))) l = cond-none (framed (x ∷ y ∷ v ∷ []))
+  short-none (x ∷ (y ∷ (v ∷ (s ∷ c)))) l = absurd (omega arith)
+
+  pub unframed-none : (b : List ℕ) → framed b ≡ false → marking t b ≡ none
+  unfolding marking
+  unframed-none b e = rw e
+
+  version-out : (v : ℕ) → eqb v 1 ≡ false → (o : Option (Marking × List ℕ)) → whole (goOn o (λ m. cond (eqb v 1 && markingFine t m) (done m) fail)) ≡ none
+  version-out v e none = refl
+  version-out v e (some x) = rw e
+
+  pub version-none : (b : List ℕ) → 4 ≤ length b → (at b 2 ≡ 1 → ⊥) → marking t b ≡ none
+  unfolding marking markingRead
+  version-none [] l n = absurd (omega arith)
+  version-none (x ∷ []) l n = absurd (omega arith)
+  version-none (x ∷ (y ∷ [])) l n = absurd (omega arith)
+  version-none (x ∷ (y ∷ (v ∷ []))) l n = absurd (omega arith)
+  version-none (x ∷ (y ∷ (v ∷ (s ∷ c)))) l n = by (leb s 1)
+    where
+      by : (d : Bool) → cond (framed (x ∷ y ∷ v ∷ s ∷ c)) (whole (goOn (cond d (done s) fail c) (λ s. fieldsRead t (layout t) (blank (eqb s 1)) >>= (λ m. cond (eqb v 1 && markingFine t m) (done m) fail)))) none ≡ none
+      by true = rw (version-out v (ne-eqb v 1 n) (fieldsRead t (layout t) (blank (eqb s 1)) c)) (cond-none (framed (x ∷ y ∷ v ∷ s ∷ c)))
+      by false = cond-none (framed (x ∷ y ∷ v ∷ s ∷ c))
+
+  pub state-none : (b : List ℕ) → 4 ≤ length b → 1 < at b 3 → marking t b ≡ none
+  unfolding marking markingRead
+  state-none [] l n = absurd (omega arith)
+  state-none (x ∷ []) l n = absurd (omega arith)
+  state-none (x ∷ (y ∷ [])) l n = absurd (omega arith)
+  state-none (x ∷ (y ∷ (v ∷ []))) l n = absurd (omega arith)
+  state-none (x ∷ (y ∷ (v ∷ (s ∷ c)))) l n = rw (lt-leb s 1 n) (cond-none (framed (x ∷ y ∷ v ∷ s ∷ c)))
+
+  then-judged : (o : Option (Marking × List ℕ)) → whole (goOn o (λ m. cond (eqb 1 1 && markingFine t m) (done m) fail)) ≡ judged t o
+  then-judged none = refl
+  then-judged (some x) = refl
+
+  pub head-reads : (b : List ℕ) → Head b → marking t b ≡ judged t (fieldsRead t (layout t) (blank (eqb (at b 3) 1)) (drop 4 b))
+  unfolding marking markingRead
+  head-reads [] h = absurd (omega (arith, h .long))
+  head-reads (x ∷ []) h = absurd (omega (arith, h .long))
+  head-reads (x ∷ (y ∷ [])) h = absurd (omega (arith, h .long))
+  head-reads (x ∷ (y ∷ (v ∷ []))) h = absurd (omega (arith, h .long))
+  head-reads (x ∷ (y ∷ (v ∷ (s ∷ c)))) h = rw (h .in-frame, le-leb s 1 (h .state), h .version-one) (then-judged (fieldsRead t (layout t) (blank (eqb s 1)) c))
+
+-- ---- the layout as nodes' fields and then edges'
+counts-are : (t : List ℕ) (js : List ℕ) → each tokensOf (keep (counted t) js) ≡ gather (edgeFields t) js
+counts-are t [] = refl
+counts-are t (j ∷ js) = by (counted t j) (counts-are t js)
+  where
+    by : (c : Bool) → each tokensOf (keep (counted t) js) ≡ gather (edgeFields t) js
+        → each tokensOf (cond c (j ∷ keep (counted t) js) (keep (counted t) js)) ≡ cond c (tokensOf j ∷ []) [] ++ gather (edgeFields t) js
+    by true h = ap (λ (l : List Field). tokensOf j ∷ l) h
+    by false h = h
+
+when-ended : (p e n d : Bool) → p ≡ true → e ≡ true → p && (e ⇒ n && d) ≡ n && d
+when-ended p e n d h k = rw (h, k)
+
+module _ (t : List ℕ) where
+  pub layout-is : layout t ≡ gather (nodeFields t) (below (nodes t)) ++ gather (edgeFields t) (below (edges t))
+  unfolding layout
+  layout-is = ap (λ (l : List Field). gather (nodeFields t) (below (nodes t)) ++ l) (counts-are t (below (edges t)))
+
+  module _ (m : Marking) where
+    pub fine-is : markingFine t m ≡ all (pinFine t m) (below (nodes t)) && (m .ended ⇒ all (nodeClear t m) (below (nodes t)) && all (edgeClear t m) (below (edges t)))
+    unfolding markingFine
+    fine-is =
+        let e : all (cleared t m) (layout t) ≡ all (nodeClear t m) (below (nodes t)) && all (edgeClear t m) (below (edges t)) =
+        ap (all (cleared t m)) layout-is ∙ all-append (cleared t m) (gather (nodeFields t) (below (nodes t))) (gather (edgeFields t) (below (edges t)))
+        ∙ ap₂ (λ (a b : Bool). a && b) (all-gather (cleared t m) (nodeFields t) (below (nodes t))) (all-gather (cleared t m) (edgeFields t) (below (edges t))) in
+        rw e
+
+    pub pins-not : all (pinFine t m) (below (nodes t)) ≡ false → markingFine t m ≡ false
+    pins-not h = fine-is ∙ rw h
+
+    pub live-fine : all (pinFine t m) (below (nodes t)) ≡ true → m .ended ≡ false → markingFine t m ≡ true
+    live-fine h e = fine-is ∙ rw (h, e)
+
+    module _ (h : all (pinFine t m) (below (nodes t)) ≡ true) (e : m .ended ≡ true) where
+      pub nodes-not : all (nodeClear t m) (below (nodes t)) ≡ false → markingFine t m ≡ false
+      nodes-not n = fine-is ∙ when-ended (all (pinFine t m) (below (nodes t))) (m .ended) (all (nodeClear t m) (below (nodes t))) (all (edgeClear t m) (below (edges t))) h e ∙ rw n
+
+      pub edges-say : all (nodeClear t m) (below (nodes t)) ≡ true → markingFine t m ≡ all (edgeClear t m) (below (edges t))
+      edges-say n = fine-is ∙ when-ended (all (pinFine t m) (below (nodes t))) (m .ended) (all (nodeClear t m) (below (nodes t))) (all (edgeClear t m) (below (edges t))) h e ∙ rw n
+
+  -- counts change nothing but counts
+  edges-keep : (js : List ℕ) (a : Marking) (b : List ℕ) (m : Marking) (rest : List ℕ) → fieldsRead t (gather (edgeFields t) js) a b ≡ some (m, rest) → (a .stock ≡ m .stock) × (a .runs ≡ m .runs) × (a .ended ≡ m .ended)
+  unfolding fieldRead
+  edges-keep [] a b m rest h = let e = same-read h .0 in (ap (λ (x : Marking). x .stock) e, ap (λ (x : Marking). x .runs) e, ap (λ (x : Marking). x .ended) e)
+  edges-keep (j ∷ js) a b m rest h = by (counted t j) b h (edges-keep js)
+    where
+      by : (c : Bool) (b : List ℕ) → fieldsRead t (cond c (tokensOf j ∷ []) [] ++ gather (edgeFields t) js) a b ≡ some (m, rest)
+          → ((a : Marking) (b : List ℕ) (m : Marking) (rest : List ℕ) → fieldsRead t (gather (edgeFields t) js) a b ≡ some (m, rest) → (a .stock ≡ m .stock) × (a .runs ≡ m .runs) × (a .ended ≡ m .ended))
+          → (a .stock ≡ m .stock) × (a .runs ≡ m .runs) × (a .ended ≡ m .ended)
+      by true [] h k = never-some h
+      by true (x ∷ b) h k = k (record { ended = a .ended; stock = a .stock; runs = a .runs; tokens = λ e. cond (eqb e j) x (a .tokens e) }) b m rest h
+      by false b h k = k a b m rest h
+
+  pub nodes-still : {b places : List ℕ} {n : ℕ} (js : List ℕ) (a : Marking) (c : List ℕ) (m : Marking) (rest : List ℕ)
+      → fieldsRead t (gather (edgeFields t) js) a c ≡ some (m, rest) → NodesNoted t a b places n → NodesNoted t m b places n
+  nodes-still js a c m rest h k =
+      let e = edges-keep js a c m rest h in
+      record {
+        node = λ i l. let z = k .node i l in record {
+          stock = λ o. rw (ap (λ (f : ℕ → List ℕ). f i) (e .0)) at (z .stock o);
+          runs = λ o. rw (ap (λ (f : ℕ → Bool). f i) (e .1)) at (z .runs o);
+        };
+      }
+
+  -- and no field changes the state
+  fields-state : (fs : List Field) (a : Marking) (b : List ℕ) (m : Marking) (rest : List ℕ) → fieldsRead t fs a b ≡ some (m, rest) → a .ended ≡ m .ended
+  fields-state [] a b m rest h = ap (λ (x : Marking). x .ended) (same-read h .0)
+  fields-state (f ∷ fs) a b m rest h =
+      let g = went-on (fieldRead t a f b) (fieldsRead t fs) (m, rest) h in
+      let k = went-on (contentRead t f b) (λ x. done (put f x a)) (g .0) (sym (field-reads t a f b) ∙ g .1) in
+      let e : put f (k .0 .0) a ≡ g .0 .0 = same-read (k .2) .0 in
+      sym (put-ended f (k .0 .0) a) ∙ ap (λ (x : Marking). x .ended) e ∙ fields-state fs (g .0 .0) (g .0 .1) m rest (g .2)
+
+  -- ---- the whole reading, from its two runs
+  module _ (b : List ℕ) (h : Head b) where
+    abbrev state : Bool
+    state = eqb (at b 3) 1
+
+    abbrev nodePart : List Field
+    nodePart = gather (nodeFields t) (below (nodes t))
+
+    abbrev edgePart : List Field
+    edgePart = gather (edgeFields t) (below (edges t))
+
+    pub nodes-none : fieldsRead t nodePart (blank state) (drop 4 b) ≡ none → marking t b ≡ none
+    nodes-none n = head-reads t b h ∙ rw (layout-is, fields-append t nodePart, n)
+
+    module _ (a : Marking) (p : ℕ) (r : fieldsRead t nodePart (blank state) (drop 4 b) ≡ some (a, drop p b)) where
+      pub edges-none : fieldsRead t edgePart a (drop p b) ≡ none → marking t b ≡ none
+      edges-none n = head-reads t b h ∙ rw (layout-is, fields-append t nodePart, r, n)
+
+      module _ (m : Marking) (q : ℕ) (s : fieldsRead t edgePart a (drop p b) ≡ some (m, drop q b)) where
+        judged-is : marking t b ≡ whole (cond (markingFine t m) (done m) fail (drop q b))
+        judged-is = head-reads t b h ∙ rw (layout-is, fields-append t nodePart, r, s)
+
+        pub left-none : (q ≡ length b → ⊥) → q ≤ length b → marking t b ≡ none
+        left-none n l = judged-is ∙ by (markingFine t m)
+          where
+            by : (c : Bool) → whole (cond c (done m) fail (drop q b)) ≡ none
+            by true = rw (ne-eqb (length (drop q b)) 0 (λ e. n (omega (arith, length-drop q b))))
+            by false = refl
+
+        pub walked : {nodesAt edgesAt : List ℕ} → q ≡ length b → NodesNoted t a b nodesAt (nodes t) → EdgesNoted t m b edgesAt (edges t) → Walked t b nodesAt edgesAt
+        walked e n k = record {
+          m = m;
+          read = judged-is ∙ by (markingFine t m);
+          state = sym (fields-state nodePart (blank state) (drop 4 b) a (drop p b) r ∙ fields-state edgePart a (drop p b) m (drop q b) s);
+          nodes-noted = nodes-still (below (edges t)) a (drop p b) m (drop q b) s n;
+          edges-noted = k;
+        }
+          where
+            by : (c : Bool) → whole (cond c (done m) fail (drop q b)) ≡ cond c (some m) none
+            by true = rw (eq-eqb (length (drop q b)) 0 (omega (arith, length-drop q b)))
+            by false = refl
+
+pub walk-by : {t b nodesAt edgesAt : List ℕ} (c : Bool) → (c ≡ true → Walked t b nodesAt edgesAt) → (c ≡ false → marking t b ≡ none) → Walk t b nodesAt edgesAt c
+walk-by true f g = f refl
+walk-by false f g = g refl
+
+-- a walk that says true or false
+pub walk-true : {t b nodesAt edgesAt : List ℕ} (c : Bool) → c ≡ true → Walk t b nodesAt edgesAt c → Walked t b nodesAt edgesAt
+walk-true true e w = w
+walk-true false e w = never false e refl
+
+pub walk-false : (t b nodesAt edgesAt : List ℕ) (c : Bool) → c ≡ false → Walk t b nodesAt edgesAt c → marking t b ≡ none
+walk-false t b nodesAt edgesAt true e w = never true refl e
+walk-false t b nodesAt edgesAt false e w = w
+
+module _ (t b nodesAt edgesAt : List ℕ) (r : MarkingAnswer) where
+  pub read-none : said r ≡ refused 5 0 → marking t b ≡ none → MarkingRead t b nodesAt edgesAt (marking t b) r
+  read-none e n = rw n e
+
+  pub read-bad : said r ≡ refused 5 0 → (w : Walked t b nodesAt edgesAt) → markingFine t (w .m) ≡ false → MarkingRead t b nodesAt edgesAt (marking t b) r
+  read-bad e w f = rw (w .read, f) e
+
+  pub read-good : (w : Walked t b nodesAt edgesAt) → markingFine t (w .m) ≡ true → said r ≡ good (eqb (at b 3) 1) → MarkingRead t b nodesAt edgesAt (marking t b) r
+  read-good w f e = rw (w .read, f) (e ∙ ap good (sym (w .state)), w .nodes-noted, w .edges-noted)

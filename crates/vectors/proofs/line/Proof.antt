@@ -1,0 +1,52 @@
+-- `line` hands on just the reply. Assumes nothing.
+use Prim.Native.Nat.{_%_}
+use native.Mathlib.Omega.{arith}
+use lib.ListN.{length-take}
+use borrow.Author.Needs.{needs}
+use Rattle.vectors.proofs.line.Statement.{statement}
+use Rattle.vectors.proofs.line.Tie as tie
+
+number-requires : tie.Need-number-requires
+number-requires c κs = search needs
+
+number-requires-2 : tie.Need-number-requires-2
+number-requires-2 c κs = search needs
+
+slice-aggregate-write-all : tie.Need-slice-aggregate-write-all
+slice-aggregate-write-all c = search needs
+
+write-all-requires : tie.Need-write-all-requires
+write-all-requires c κs = search needs
+
+returns : tie.Need-returns
+returns c = search needs
+
+slice-aggregate-hex : tie.Need-slice-aggregate-hex
+slice-aggregate-hex c = omega (arith, length-take (c .before .before .before .before .before .before .args .word % 4294967296) (c .before .before .before .before .before .before .args .out .now))
+
+hex-requires : tie.Need-hex-requires
+hex-requires c κs = search needs
+
+slice-aggregate-write-all-2 : tie.Need-slice-aggregate-write-all-2
+slice-aggregate-write-all-2 c = search needs
+
+write-all-requires-2 : tie.Need-write-all-requires-2
+write-all-requires-2 c κs = search needs
+
+returns-2 : tie.Need-returns-2
+returns-2 c = search needs
+
+pub line-spec : {M : Type 1} → statement M
+line-spec =
+    tie.close
+    (tie.spec
+    number-requires
+    number-requires-2
+    slice-aggregate-write-all
+    write-all-requires
+    returns
+    slice-aggregate-hex
+    hex-requires
+    slice-aggregate-write-all-2
+    write-all-requires-2
+    returns-2)
