@@ -1,0 +1,270 @@
+-- The search: what each of its ways to answer finds, and how many states it visits. Assumes nothing.
+use mathlib.Core.Path.{_≡_, refl, sym, ap, _∙_, subst}
+use mathlib.Core.Bool.{Bool, true, false, not, cond}
+use mathlib.Core.Option.{Option, none, some}
+use Prim.Native.Nat.{ℕ, suc, _+_, _*_, _-_, _%_, _^_, _≤_, _<_}
+use native.Mathlib.Nat.{pow-suc, zero-add, add-zero, mod-one}
+use native.Mathlib.Omega.{arith}
+use lib.Pow.{pow-mono, pow-pos}
+use Rattle.paper.specs.Lists.{has}
+use Rattle.paper.proofs.Bools.{never, false-if}
+use Rattle.paper.proofs.Digits.{in-digit, out-digit, has-none}
+use Rattle.paper.proofs.Choices.{first-unique}
+use Rattle.paper.proofs.Search.{look, Finds, look-finds, look-first, found-first}
+use Rattle.net.specs.declared.Bounds.{Bounds}
+use Rattle.net.specs.declared.Place.{Place}
+use Rattle.net.specs.declared.Visit.{Visit}
+use Rattle.net.specs.declared.Visit.the-variants.{Choice, Nothing}
+use Rattle.net.specs.declared.Found.{Found}
+use Rattle.net.specs.declared.Found.the-variants.{Choice as Found·Choice, Nothing as Found·Nothing}
+use Rattle.net.specs.Net.{Net, meets, passes, Answers}
+use Rattle.net.specs.Bounds.{Keeps, NoneIn, Confined, Placed, stepped, said, seen, Visited}
+use Rattle.net.proofs.Sets.{has-all, meets-one}
+use Rattle.net.proofs.Rules.{passes-wider, first-same}
+
+-- ---- the search through all sets, by the number of open ends
+look-none : (w : ℕ → Bool) (r k acc : ℕ) → acc < 2 ^ k → ((x : ℕ) → x < 2 ^ (k + r) → x % 2 ^ k ≡ acc → w x ≡ false) → look w r k acc ≡ none
+look-none w r k acc la h = by (look w r k acc) (look-finds w r k acc la)
+  where
+    by : (o : Option ℕ) → Finds w r k acc o → o ≡ none
+    by none f = refl
+    by (some c) f = never (w c) (f .passes) (h c (f .is-set) (f .starts))
+
+look-leaf : (w : ℕ → Bool) (k acc : ℕ) → w acc ≡ true → look w 0 k acc ≡ some acc
+unfolding look
+look-leaf w k acc h = rw h
+
+look-leaf-none : (w : ℕ → Bool) (k acc : ℕ) → w acc ≡ false → look w 0 k acc ≡ none
+unfolding look
+look-leaf-none w k acc h = rw h
+
+module _ (w : ℕ → Bool) (r k acc : ℕ) where
+  look-by : (o : Option ℕ) → look w r (suc k) (acc + 2 ^ k) ≡ o → look w (suc r) k acc ≡ elim o [ none ↦ look w r (suc k) acc | some c ↦ some c ]
+  unfolding look
+  look-by o e = ap (λ (o : Option ℕ). elim o [ none ↦ look w r (suc k) acc | some c ↦ some c ]) e
+
+look-take : (w : ℕ → Bool) (l k acc c : ℕ) → 1 ≤ l → look w (l - 1) (suc k) (acc + 2 ^ k) ≡ some c → look w l k acc ≡ some c
+look-take w l k acc c h e =
+    subst (λ (j : ℕ). look w j k acc ≡ some c) (let z : suc (l - 1) ≡ l = omega arith in z) (look-by w (l - 1) k acc (some c) e)
+
+look-leave : (w : ℕ → Bool) (l k acc : ℕ) → 1 ≤ l → look w (l - 1) (suc k) (acc + 2 ^ k) ≡ none → look w l k acc ≡ look w (l - 1) (suc k) acc
+look-leave w l k acc h e =
+    subst (λ (j : ℕ). look w j k acc ≡ look w (l - 1) (suc k) acc) (let z : suc (l - 1) ≡ l = omega arith in z) (look-by w (l - 1) k acc none e)
+
+-- ---- numbers of states
+two-more : (l : ℕ) → 1 < 2 ^ (l + 1)
+two-more l = let e : l + 1 ≡ suc l = omega arith in rw (e, pow-suc 2 l) (let p = pow-pos l in omega arith)
+
+halves : (l : ℕ) → 1 ≤ l → 2 ^ (l + 1) ≡ 2 ^ (l - 1 + 1) + 2 ^ (l - 1 + 1)
+halves l h = let e : l + 1 ≡ suc (l - 1 + 1) = omega arith in rw (e, pow-suc 2 (l - 1 + 1)) (omega arith)
+
+pub few-states : (l m : ℕ) → l ≤ m → m ≤ 20 → 2 ^ (l + 1) ≤ 2097152
+few-states l m h k = let e : l + 1 ≤ 21 = omega arith in pow-mono e
+
+pub small-weight : (l m : ℕ) → 1 ≤ l → m ≤ 20 → 2 ^ (m - l) ≤ 524288
+small-weight l m h k = let e : m - l ≤ 19 = omega arith in pow-mono e
+
+-- ---- places: the first open end is taken, or left
+abbrev pub taking : Place → Place
+taking p = stepped p (p .bit)
+
+abbrev pub leaving : Place → Place
+leaving p = record { left = p .left - 1; bit = p .bit * 2; taken = p .taken }
+
+pub stepped-leaving : (p : Place) → stepped p 0 ≡ leaving p
+stepped-leaving p = ap (λ (t : ℕ). record { left = p .left - 1; bit = p .bit * 2; taken = t }) (add-zero (p .taken))
+
+module _ (m : ℕ) (p : Place) (placed : Placed m p) (some-open : 1 ≤ p .left) where
+  next : m - (p .left - 1) ≡ suc (m - p .left)
+  next = let f = placed .few in omega arith
+
+  double : 2 ^ (m - (p .left - 1)) ≡ p .bit * 2
+  double = rw (next, pow-suc 2 (m - p .left), placed .weight)
+
+  pub placed-taking : Placed m (taking p)
+  placed-taking = record {
+    few = let f = placed .few in omega arith;
+    weight = sym double;
+    small = let s = placed .small in omega arith;
+  }
+
+  pub placed-leaving : Placed m (leaving p)
+  placed-leaving = record {
+    few = let f = placed .few in omega arith;
+    weight = sym double;
+    small = let s = placed .small in omega arith;
+  }
+
+-- ---- ways to answer
+module _ (w : ℕ → Bool) (m : ℕ) (p : Place) (b low : Bounds) (most : m ≤ 20) (placed : Placed m p) (kept : Keeps w b low) where
+  abbrev k : ℕ
+  k = m - p .left
+
+  small : p .taken < 2 ^ k
+  small = rw (← placed .weight) (placed .small)
+
+  width : k + p .left ≡ m
+  width = let f = placed .few in omega arith
+
+  low-too : Confined w m k (p .taken) b → Confined w m k (p .taken) low
+  low-too all = λ x l s e. kept x e (all x l s e)
+
+  one-state : 1 < 2 ^ (p .left + 1)
+  one-state = two-more (p .left)
+
+  -- nothing lies between the bounds
+  pub ends-dead : NoneIn w low → Visited w m p b (Nothing 1)
+  ends-dead h = record {
+    finds = λ all.
+        sym (look-none w (p .left) k (p .taken) small (λ x l s. false-if (w x) (λ e. h x e (low-too all x (rw width at l) s e))));
+    some-seen = omega arith;
+    most-seen = one-state;
+  }
+
+  -- no end is open
+  pub ends-leaf : p .left ≡ 0 → (t : Bool) → t ≡ w (p .taken) → Visited w m p b (cond t (Choice (p .taken) 1) (Nothing 1))
+  ends-leaf z true e = record {
+    finds = λ all. sym (rw z (look-leaf w _ (p .taken) (sym e)));
+    some-seen = omega arith;
+    most-seen = one-state;
+  }
+  ends-leaf z false e = record {
+    finds = λ all. sym (rw z (look-leaf-none w _ (p .taken) (sym e)));
+    some-seen = omega arith;
+    most-seen = one-state;
+  }
+
+  module _ (some-open : 1 ≤ p .left) where
+    in-words : k < 32
+    in-words = let f = placed .few in omega arith
+
+    after-k : m - (p .left - 1) ≡ suc k
+    after-k = next m p placed some-open
+
+    wide : suc k + (p .left - 1) ≡ m
+    wide = let g = width in omega arith
+
+    seen-half : 2 ^ (p .left + 1) ≡ 2 ^ (p .left - 1 + 1) + 2 ^ (p .left - 1 + 1)
+    seen-half = halves (p .left) some-open
+
+    -- the sets with the first open end, and those without it
+    confined-in : (c : Bounds) → ((j : ℕ) → p .bit ≡ 2 ^ j → Keeps (λ x. has x j) low c) → Confined w m k (p .taken) b
+        → Confined w m (m - (p .left - 1)) (p .taken + p .bit) c
+    confined-in c f all = rw (after-k, placed .weight) (λ x l s e.
+        let d = in-digit x k (p .taken) small s in
+        f k (placed .weight) x (d .0) (low-too all x l (d .1) e))
+
+    confined-out : (c : Bounds) → Keeps (λ x. not (meets 32 x (p .bit))) low c → Confined w m k (p .taken) b
+        → Confined w m (m - (p .left - 1)) (p .taken) c
+    confined-out c f all = rw after-k (λ x l s e.
+        let d = out-digit x k (p .taken) small s in
+        f x (rw (placed .weight, meets-one 32 x k in-words, d .0)) (low-too all x l (d .1) e))
+
+    module _ (c : Bounds) (f : Visit) (adds : (j : ℕ) → p .bit ≡ 2 ^ j → Keeps (λ x. has x j) low c) (took : Visited w m (taking p) c f) where
+      looked : Confined w m k (p .taken) b → said f ≡ look w (p .left - 1) (suc k) (p .taken + 2 ^ k)
+      looked all = took .finds (confined-in c adds all) ∙ rw (after-k, placed .weight)
+
+      -- found with the end
+      pub finds-with : (s n : ℕ) → f ≡ Choice s n → Visited w m p b (Choice s (n + 1))
+      finds-with s n e =
+          let q : seen f ≡ n = ap seen e in
+          let o = took .most-seen in
+          record {
+            finds = λ all. sym (look-take w (p .left) k (p .taken) s some-open (sym (looked all) ∙ ap said e));
+            some-seen = omega arith;
+            most-seen = omega (arith, seen-half, took .some-seen);
+          }
+
+      module _ (n : ℕ) (e : f ≡ Nothing n) where
+        left-over : Confined w m k (p .taken) b → look w (p .left) k (p .taken) ≡ look w (p .left - 1) (suc k) (p .taken)
+        left-over all = look-leave w (p .left) k (p .taken) some-open (sym (looked all) ∙ ap said e)
+
+        -- nothing with the end, and none without it
+        pub finds-none : meets 32 (low .must) (p .bit) ≡ true → (t : ℕ) → t ≡ seen f + 1 → Visited w m p b (Nothing t)
+        finds-none h t q =
+            let o = took .most-seen in
+            record {
+              finds = λ all. sym (left-over all ∙ look-none w (p .left - 1) (suc k) (p .taken) (rw (pow-suc 2 k) (let s = small in omega arith)) (none-left all));
+              some-seen = omega arith;
+              most-seen = omega (arith, seen-half, took .some-seen);
+            }
+          where
+            holds : has (low .must) k ≡ true
+            holds = sym (meets-one 32 (low .must) k in-words) ∙ ap (meets 32 (low .must)) (sym (placed .weight)) ∙ h
+
+            none-left : Confined w m k (p .taken) b → (x : ℕ) → x < 2 ^ (suc k + (p .left - 1)) → x % 2 ^ suc k ≡ p .taken → w x ≡ false
+            none-left all x l s =
+                let d = out-digit x k (p .taken) small s in
+                false-if (w x) (λ i. never (has x k) (low-too all x (rw wide at l) (d .1) i .above k in-words holds) (d .0))
+
+        -- nothing with the end: what is found without it
+        pub finds-without : (o : Bounds) → Keeps (λ x. not (meets 32 x (p .bit))) low o → (v : Visit) → Visited w m (leaving p) o v
+            → (t : ℕ) → t ≡ seen f + 1 → (r : Visit) → said r ≡ said v → seen r ≡ t + seen v → Visited w m p b r
+        finds-without o strikes v left t q r same more =
+            let g = took .most-seen in
+            let i = left .most-seen in
+            record {
+              finds = λ all. same ∙ left .finds (confined-out o strikes all) ∙ rw after-k (sym (left-over all));
+              some-seen = omega arith;
+              most-seen = omega (arith, seen-half);
+            }
+
+    -- the end is struck already
+    pub finds-struck : meets 32 (low .may) (p .bit) ≡ false → (o : Bounds) → Keeps (λ x. not (meets 32 x (p .bit))) low o → (v : Visit)
+        → Visited w m (leaving p) o v → (r : Visit) → said r ≡ said v → seen r ≡ 1 + seen v → Visited w m p b r
+    finds-struck h o strikes v left r same more =
+        let i = left .most-seen in
+        record {
+          finds = λ all. same ∙ left .finds (confined-out o strikes all) ∙ rw after-k (sym (look-leave w (p .left) k (p .taken) some-open (look-none w (p .left - 1) (suc k) (p .taken + 2 ^ k) (rw (pow-suc 2 k) (let s = small in omega arith)) (none-in all))));
+          some-seen = omega arith;
+          most-seen = omega (arith, seen-half, left .some-seen);
+        }
+      where
+        lacks : has (low .may) k ≡ false
+        lacks = sym (meets-one 32 (low .may) k in-words) ∙ ap (meets 32 (low .may)) (sym (placed .weight)) ∙ h
+
+        none-in : Confined w m k (p .taken) b → (x : ℕ) → x < 2 ^ (suc k + (p .left - 1)) → x % 2 ^ suc k ≡ p .taken + 2 ^ k → w x ≡ false
+        none-in all x l s =
+            let d = in-digit x k (p .taken) small s in
+            false-if (w x) (λ i. never (has (low .may) k) (low-too all x (rw wide at l) (d .1) i .under k in-words (d .0)) lacks)
+
+-- ---- the whole search
+pub confined-start : (w : ℕ → Bool) (m top : ℕ) → top ≡ 2 ^ m → Confined w m (m - m) 0 (record { must = 0; may = top - 1 })
+confined-start w m top e = λ x l s h. record {
+  above = λ k i g. never (has 0 k) g (has-none k);
+  under = λ k i g. rw e (has-all m x k l g);
+}
+
+pub placed-start : (m : ℕ) → Placed m (record { left = m; bit = 1; taken = 0 })
+placed-start m = record {
+  few = omega arith;
+  weight = let e : m - m ≡ 0 = omega arith in rw e;
+  small = omega arith;
+}
+
+pub looks-all : (w : ℕ → Bool) (m : ℕ) → look w m (m - m) 0 ≡ look w m 0 0
+looks-all w m = let e : m - m ≡ 0 = omega arith in ap (λ (k : ℕ). look w m k 0) e
+
+-- what it finds is the first set that passes, by the ends below m alone
+module _ (net : Net) (m : ℕ) (most : m ≤ 20) where
+  agree : (x : ℕ) → x < 2 ^ m → passes 32 net x ≡ passes m net x
+  agree x l = subst (λ (n : ℕ). passes n net x ≡ passes m net x) (let e : m + (32 - m) ≡ 32 = omega arith in e) (passes-wider m (32 - m) x l net)
+
+  looked-at : (o : Option ℕ) → o ≡ look (passes 32 net) m 0 0 → Finds (passes 32 net) m 0 0 o
+  looked-at o e = subst (λ (p : Option ℕ). Finds (passes 32 net) m 0 0 p) (sym e) (look-first (passes 32 net) m)
+
+  pub answers-choice : (c : ℕ) → some c ≡ look (passes 32 net) m 0 0 → Answers net m (Found·Choice c)
+  unfolding Answers
+  answers-choice c e = first-same (passes 32 net) (passes m net) m agree c (found-first (passes 32 net) m c (looked-at (some c) e))
+
+  pub answers-nothing : none ≡ look (passes 32 net) m 0 0 → Answers net m Found·Nothing
+  unfolding Answers
+  answers-nothing e = λ x l. sym (agree x l) ∙ looked-at none e x (rw (zero-add m) l) (mod-one x)
+
+-- the promise allows one answer
+pub answers-unique : (net : Net) (m : ℕ) (f g : Found) → Answers net m f → Answers net m g → f ≡ g
+unfolding Answers
+answers-unique net m (Found·Choice c) (Found·Choice d) p q = ap Found·Choice (first-unique c d p q)
+answers-unique net m (Found·Choice c) Found·Nothing p q = never (passes m net c) (p .passes) (q c (p .is-set))
+answers-unique net m Found·Nothing (Found·Choice d) p q = never (passes m net d) (q .passes) (p d (q .is-set))
+answers-unique net m Found·Nothing Found·Nothing p q = refl

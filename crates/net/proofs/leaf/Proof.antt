@@ -1,0 +1,13 @@
+-- `leaf`, by its test. Assumes nothing.
+use borrow.Author.Needs.{needs}
+use Rattle.net.proofs.leaf.Statement.{statement}
+use Rattle.net.proofs.leaf.Tie as tie
+
+returns : tie.Need-returns
+returns c = rw (c .if1 .taken)
+
+returns-2 : tie.Need-returns-2
+returns-2 c = search needs
+
+pub leaf-spec : {M : Type 1} → statement M
+leaf-spec = tie.close (tie.spec returns returns-2)

@@ -1,0 +1,68 @@
+-- What each step of the search promises. A set is looked for between two others, `must` and `may`, which are words of 32 digits; a step may draw them
+-- closer together, and loses no set that passes. Assumes nothing.
+use Prim.Native.Nat.{ℕ, _+_, _*_, _-_, _%_, _^_, _≤_, _<_}
+use mathlib.Core.Path.{_≡_}
+use mathlib.Core.Bool.{Bool, true, not, _&&_}
+use mathlib.Core.List.{List}
+use mathlib.Core.Option.{Option, none, some}
+use Rattle.paper.specs.Lists.{has}
+use Rattle.paper.proofs.Search.{look}
+use Rattle.net.specs.declared.Wanted.{Wanted}
+use Rattle.net.specs.declared.Bounds.{Bounds}
+use Rattle.net.specs.declared.Place.{Place}
+use Rattle.net.specs.declared.Visit.{Visit}
+use Rattle.net.specs.declared.Visit.the-variants.{Choice, Nothing}
+use Rattle.net.specs.Net.{passes, netOf}
+
+-- a word passes the net in the four columns
+abbrev pub good : List ℕ → List ℕ → List ℕ → List ℕ → ℕ → Wanted → ℕ → Bool
+good when only lo hi n want = passes 32 (netOf when only lo hi n want)
+
+-- each end in a is in b
+abbrev pub Part : ℕ → ℕ → Type 0
+Part a b = (k : ℕ) → k < 32 → has a k ≡ true → has b k ≡ true
+
+-- r is c without the ends in d
+abbrev pub Without : ℕ → ℕ → ℕ → Type 0
+Without c d r = (k : ℕ) → has r k ≡ has c k && not (has d k)
+
+pub record Between (b : Bounds) (x : ℕ) : Type 0 where
+  pub above : Part (b .must) x
+  pub under : Part x (b .may)
+
+-- each set that passes and lies between the bounds b lies between r too
+abbrev pub Keeps : (ℕ → Bool) → Bounds → Bounds → Type 0
+Keeps passing b r = (x : ℕ) → passing x ≡ true → Between b x → Between r x
+
+-- no set that passes lies between the bounds
+abbrev pub NoneIn : (ℕ → Bool) → Bounds → Type 0
+NoneIn passing b = (x : ℕ) → passing x ≡ true → Between b x → ⊥
+
+-- each set of m ends that passes and whose digits below k are those of `taken` lies between the bounds
+abbrev pub Confined : (ℕ → Bool) → ℕ → ℕ → ℕ → Bounds → Type 0
+Confined passing m k taken b = (x : ℕ) → x < 2 ^ m → x % 2 ^ k ≡ taken → passing x ≡ true → Between b x
+
+-- of m ends the last `left` are open, `bit` is the weight of the first of these, and `taken` holds the choice for those before it
+pub record Placed (m : ℕ) (p : Place) : Type 0 where
+  pub few : p .left ≤ m
+  pub weight : p .bit ≡ 2 ^ (m - p .left)
+  pub small : p .taken < p .bit
+
+-- one end less is open, and `end` is taken
+abbrev pub stepped : Place → ℕ → Place
+stepped p end = record { left = p .left - 1; bit = p .bit * 2; taken = p .taken + end }
+
+abbrev pub said : Visit → Option ℕ
+said (Choice c n) = some c
+said (Nothing n) = none
+
+abbrev pub seen : Visit → ℕ
+seen (Choice c n) = n
+seen (Nothing n) = n
+
+-- the search from a place finds what `look`, the search through all sets, does, if all that pass lie between the bounds; and it visits a state at
+-- least, and no more than all
+pub record Visited (passing : ℕ → Bool) (m : ℕ) (p : Place) (b : Bounds) (v : Visit) : Type 0 where
+  pub finds : Confined passing m (m - p .left) (p .taken) b → said v ≡ look passing (p .left) (m - p .left) (p .taken)
+  pub some-seen : 1 ≤ seen v
+  pub most-seen : seen v < 2 ^ (p .left + 1)
