@@ -1,0 +1,2 @@
+-- Laws of dead searches.
+pub mod Laws

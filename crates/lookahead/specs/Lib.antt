@@ -1,0 +1,2 @@
+-- What the look-ahead promises.
+pub mod Dead
