@@ -1,0 +1,29 @@
+-- The struct Offers, seen as rows. Assumes nothing.
+use mathlib.Core.Path.{_≡_}
+use Prim.Native.Nat.{ℕ, _+_, _*_, _/_, _%_, _<_}
+use mathlib.Core.List.{List}
+use lib.ListN.{getD}
+use Rattle.flow.specs.Rows.{Rows, entryOf}
+use Rattle.flow.specs.declared.Offers.{Offers}
+
+abbrev pub rowsOf : Offers → Rows
+rowsOf o = record {
+  entry = λ i.
+      entryOf (getD (o .last) i 0) (getD (o .node) i 0) (getD (o .has) i 0) (getD (o .value) i 0) (getD (o .paths) i 0)
+      (getD (o .parents) i 0) (getD (o .makers) i 0) (getD (o .foes) i 0);
+  before = λ i k. getD (o .before) (8 * i + k) 0;
+  count = o .count;
+}
+
+-- the arrays of o are the first c rows in the cells m, cut to the arrays' widths
+pub record Copied (m : List ℕ) (c : ℕ) (o : Offers) : Type 0 where
+  pub count-is : o .count ≡ c
+  pub lasts : (i : ℕ) → i < c → getD (o .last) i 0 ≡ getD m (16 * i + 0) 0 % 256
+  pub nodes-are : (i : ℕ) → i < c → getD (o .node) i 0 ≡ getD m (16 * i + 1) 0 % 256
+  pub haves : (i : ℕ) → i < c → getD (o .has) i 0 ≡ getD m (16 * i + 2) 0 % 256
+  pub values-are : (i : ℕ) → i < c → getD (o .value) i 0 ≡ getD m (16 * i + 3) 0 % 4294967296
+  pub paths-are : (i : ℕ) → i < c → getD (o .paths) i 0 ≡ getD m (16 * i + 4) 0 % 256
+  pub parents-are : (i : ℕ) → i < c → getD (o .parents) i 0 ≡ getD m (16 * i + 5) 0
+  pub makers-are : (i : ℕ) → i < c → getD (o .makers) i 0 ≡ getD m (16 * i + 6) 0
+  pub foes-are : (i : ℕ) → i < c → getD (o .foes) i 0 ≡ getD m (16 * i + 7) 0
+  pub befores : (x : ℕ) → x < 8 * c → getD (o .before) x 0 ≡ getD m (16 * (x / 8) + 8 + x % 8) 0 % 65536
