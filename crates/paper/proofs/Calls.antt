@@ -61,3 +61,29 @@ step-unique t b g ks = leaves-unique (only-one (step t b g ks))
 
 pub finish-unique : (t b : List ℕ) (a : ℕ) (vs : List ℕ) → OneCall (Only (finish t b a vs))
 finish-unique t b a vs = leaves-unique (only-one (finish t b a vs))
+
+-- ---- "same bytes, same answer": of any call, with the bytes and the number that it is lent
+pub data Call : Type 0 where
+  checks : (t : List ℕ) → Call
+  starts : (t b : List ℕ) → Call
+  sheets : (t b g : List ℕ) → Call
+  picks : (t b g : List ℕ) (n : ℕ) → Call
+  steps : (t b g ks : List ℕ) → Call
+  finishes : (t b : List ℕ) (a : ℕ) (vs : List ℕ) → Call
+
+-- what its operation's definition allows
+abbrev pub AllowedBy : Call → Answer (List ℕ) → Type 0
+AllowedBy (checks t) = Only (check t)
+AllowedBy (starts t b) = Only (start t b)
+AllowedBy (sheets t b g) = Only (sheet t b g)
+AllowedBy (picks t b g n) = Pick t b g n
+AllowedBy (steps t b g ks) = Only (step t b g ks)
+AllowedBy (finishes t b a vs) = Only (finish t b a vs)
+
+pub same-answer : (c : Call) → OneCall (AllowedBy c)
+same-answer (checks t) = check-unique t
+same-answer (starts t b) = start-unique t b
+same-answer (sheets t b g) = sheet-unique t b g
+same-answer (picks t b g n) = pick-call-unique t b g n
+same-answer (steps t b g ks) = step-unique t b g ks
+same-answer (finishes t b a vs) = finish-unique t b a vs

@@ -14,6 +14,7 @@ pub mod OneTable
 pub mod Fields
 pub mod OneMarking
 pub mod Given
+pub mod Stepped
 pub mod Written
 pub mod Origins
 pub mod Sameness

@@ -50,7 +50,7 @@ no-join k c d = by (isDecision k) refl (isMerge k) refl (isFork k) refl
         near : 8 ≤ k → k ≤ 11 → (k ≡ 8 → ⊥) → (k ≡ 9 → ⊥) → (k ≡ 10 → ⊥) → (k ≡ 11 → ⊥) → ⊥
         near a b p q r s = omega arith
 
-one-is : {e : ℕ} {v w : Option ℕ} → first e v ∷ [] ≡ first e w ∷ [] → v ≡ w
+pub one-is : {e : ℕ} {v w : Option ℕ} → first e v ∷ [] ≡ first e w ∷ [] → v ≡ w
 one-is {e} {v} {w} h = cc
 
 module _ (t : List ℕ) (m : Marking) (e : ℕ) where
