@@ -1,2 +1,3 @@
--- Laws that proofs of writers cite.
+-- Laws of numbers in bytes and of runs of stores.
 pub mod Laws
+pub mod Runs

@@ -1,12 +1,14 @@
 // Big-endian numbers in lent bytes, and the three numbers of an answer packed in one word.
 // Assumes nothing.
 ghost use mathlib.Core.Path.{_≡_};
-ghost use Prim.Native.Nat.{_+_, _*_, _^_, _≤_, _<_};
-ghost use lib.ListN.{length};
+ghost use mathlib.Core.List.{[], _∷_, _++_};
+ghost use Prim.Native.Nat.{_+_, _*_, _-_, _^_, _≤_, _<_};
+ghost use lib.ListN.{length, take, drop};
 ghost use lib.Seq.{sets};
 ghost use Rattle.paper.specs.Lists.{at};
-ghost use Rattle.paper.specs.Bytes.{two};
+ghost use Rattle.paper.specs.Bytes.{two, four};
 ghost use Rattle.paper.specs.Operations.{packed};
+ghost use Rattle.paper.proofs.Cursor.{wordAt};
 
 // A byte as a number that can be an index.
 pub fn wide(x: u8) -> usize
@@ -23,6 +25,14 @@ pub fn read16(s: &[u8], from: usize) -> usize
     wide(s[from]) * 256 + wide(s[from + 1])
 }
 
+// The big-endian number in four bytes from a place on.
+pub fn read32(s: &[u8], from: usize) -> u32
+    requires { ⌜ from + 4 ≤ length (now s) ⌝ }
+    ensures { λ r. ⌜ r ≡ wordAt (now (s .entry)) from ⌝ }
+{
+    (read16(s, from) * 65536 + read16(s, from + 2)) as u32
+}
+
 // A number in two bytes from a place on, big-endian.
 pub fn write16(d: &mut [u8], at: usize, v: usize)
     requires { ⌜ at + 2 ≤ length (now d) ⌝ }
@@ -30,6 +40,39 @@ pub fn write16(d: &mut [u8], at: usize, v: usize)
 {
     d[at] = (v / 256 % 256) as u8;
     d[at + 1] = (v % 256) as u8;
+}
+
+// A value in four bytes from a place on, big-endian.
+pub fn write32(d: &mut [u8], at: usize, v: u32)
+    requires { ⌜ at + 4 ≤ length (now d) ⌝ }
+    ensures { λ _. ⌜ now (d .exit) ≡ sets (now (d .entry)) at (four v) ⌝ }
+{
+    d[at] = (v / 16777216 % 256) as u8;
+    d[at + 1] = (v / 65536 % 256) as u8;
+    d[at + 2] = (v / 256 % 256) as u8;
+    d[at + 3] = (v % 256) as u8;
+}
+
+// The n bytes from a place on, copied to another place.
+pub fn copy(src: &[u8], from: usize, n: usize, out: &mut [u8], to: usize)
+    requires { ⌜ (from + n ≤ length (now src)) × (to + n ≤ length (now out)) ⌝ }
+    ensures { λ _. ⌜ now (out .exit) ≡ sets (now (out .entry)) to (take n (drop from (now (src .entry)))) ⌝ }
+{
+    let mut k: usize = 0;
+    while k < n {
+        out[to + k] = src[from + k];
+        k += 1;
+    }
+}
+
+// The head of what is stored: the number of bytes after the length, version 1, and one byte more.
+pub fn write_head(len: usize, state: u8, out: &mut [u8])
+    requires { ⌜ (4 ≤ len) × (4 ≤ length (now out)) ⌝ }
+    ensures { λ _. ⌜ now (out .exit) ≡ sets (now (out .entry)) 0 (two (len - 2) ++ (1 ∷ state ∷ [])) ⌝ }
+{
+    write16(out, 0, len - 2);
+    out[2] = 1;
+    out[3] = state;
 }
 
 // The weight of a refusal's number in a packed answer, 2 ^ 48, and of its place, 2 ^ 32. The length stands below them.

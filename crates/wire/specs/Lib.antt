@@ -1,0 +1,2 @@
+-- Sums of what is written.
+pub mod Totals
