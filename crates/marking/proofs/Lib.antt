@@ -1,6 +1,3 @@
--- Laws that the marking's proofs cite.
+-- Laws that the proofs about reading a marking cite.
 pub mod Laws
 pub mod ValueLaws
-pub mod HoldingLaws
-pub mod GivingLaws
-pub mod WritingLaws

@@ -1,6 +1,3 @@
--- What the marking's code promises, in the paper's words.
+-- What the marking's readers promise, in the paper's words.
 pub mod Reading
 pub mod Values
-pub mod Holding
-pub mod Writing
-pub mod Giving

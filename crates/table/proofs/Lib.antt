@@ -1,3 +1,2 @@
--- Laws of the arrays that row 4 is read from, and what a reading says.
-pub mod Laws
+-- Laws that every reader of tables may cite.
 pub mod Reading

@@ -1,16 +1,21 @@
 -- What a table's reading says of its bytes, for the operations above: the ladder's rows where it is refused, and what every reader may rely on where
 -- it is good. Assumes nothing.
 use mathlib.Core.Path.{_≡_, refl, sym, ap, _∙_}
-use Prim.Native.Nat.{ℕ, _≤_, _<_}
+use Prim.Native.Nat.{ℕ, zero, suc, _≤_, _<_}
 use native.Mathlib.Omega.{arith}
+use mathlib.Core.Bool.{Bool, true, false, not}
 use mathlib.Core.List.{List}
+use mathlib.Core.Option.{none, some}
+use lib.ListN.{replicate}
+use Rattle.paper.specs.Lists.{lowest}
 use Rattle.paper.specs.Answers.{Answer, refused, good, _>>=_}
 use Rattle.paper.specs.Limits.{limits}
 use Rattle.paper.specs.Table.{nodes, edges, source, target, tableFine}
+use Rattle.paper.proofs.Lists.{lowest-none, lowest-some}
 use Rattle.paper.proofs.Ladders.{no-good, row-good, same-good}
 use Rattle.paper.proofs.Tables.{GoodTable, table-good}
 use Rattle.table.specs.declared.Table.{Table}
-use Rattle.table.specs.Reading.{countsOf, tableRead, Spans}
+use Rattle.table.specs.Reading.{countsOf, tableRead, Spans, Blank}
 
 -- the rows alone, without the counts
 pub read-refused : (t : List ℕ) (n p : ℕ) → tableRead t ≡ refused n p → tableFine t limits ≡ refused n p
@@ -61,3 +66,17 @@ module _ (t : List ℕ) {x : Table} (h : tableRead t ≡ good x) where
   target-node j l =
       let s = read-spans in
       omega (arith, read-good .edge j (omega arith) .target-fits)
+
+-- ---- the lowest that fails
+module _ (p : ℕ → Bool) (n : ℕ) where
+  pub fails-at : (i : ℕ) → ((k : ℕ) → k < i → p k ≡ true) → p i ≡ false → i < n → lowest (λ k. not (p k)) n ≡ some i
+  fails-at i h e l = lowest-some (λ k. not (p k)) n i (λ k u. ap not (h k u)) (ap not e) l
+
+  pub fails-nowhere : ((k : ℕ) → k < n → p k ≡ true) → lowest (λ k. not (p k)) n ≡ none
+  fails-nowhere h = lowest-none (λ k. not (p k)) n (λ k u. ap not (h k u))
+
+-- an array that is not written yet
+pub blank : (n : ℕ) → Blank (replicate n 0)
+blank zero i = refl
+blank (suc n) zero = refl
+blank (suc n) (suc i) = blank n i

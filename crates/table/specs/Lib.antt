@@ -1,3 +1,2 @@
--- What the table's code promises, in the paper's words.
+-- What the readers of a table promise, in the paper's words.
 pub mod Reading
-pub mod Shape

@@ -5,6 +5,7 @@ use mathlib.Core.Bool.{true}
 use mathlib.Core.List.{List}
 use mathlib.Core.Option.{Option, none, some}
 use lib.ListN.{length}
+use Rattle.paper.specs.Lists.{at}
 use Rattle.paper.specs.Answers.{Answer, refused, good, _>>=_}
 use Rattle.paper.specs.Limits.{limits}
 use Rattle.paper.specs.Table.{nodes, edges, edgeAt, nodeFine, edgeFine, tableFine}
@@ -47,3 +48,7 @@ NodesFine t = (i : ℕ) → i < nodes t → nodeFine t i ≡ true
 
 abbrev pub EdgesFine : List ℕ → Type 0
 EdgesFine t = (j : ℕ) → j < edges t → edgeFine t j ≡ true
+
+-- nothing is written yet
+abbrev pub Blank : List ℕ → Type 0
+Blank marks = (i : ℕ) → at marks i ≡ 0

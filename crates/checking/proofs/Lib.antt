@@ -1,0 +1,2 @@
+-- Laws that the reader of a table cites.
+pub mod Laws

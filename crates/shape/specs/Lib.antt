@@ -1,0 +1,2 @@
+-- What the arrays of row 4 hold.
+pub mod Shape

@@ -1,0 +1,2 @@
+-- Laws of writing a marking.
+pub mod WritingLaws

@@ -1,0 +1,2 @@
+-- What the writer of a marking promises, in the paper's words.
+pub mod Writing
