@@ -11,7 +11,9 @@ use Rattle.paper.specs.Table.{nodes, edges, source, target, kind, isControlNode
 use Rattle.paper.specs.Marking.{Marking}
 use Rattle.paper.specs.Offers.{Offer, firsts, handed, goesOver, offersOn, offers}
 use Rattle.paper.proofs.Members.{In, Distinct}
-use Rattle.flow.specs.Rows.{Rows, Holds, Seg, Framed, startOf, fine}
+use Rattle.table.specs.declared.Table.{Table}
+use Rattle.table.specs.Reading.{Spans}
+use Rattle.rows.specs.Rows.{Rows, Holds, Seg, startOf, fine}
 
 -- the offers on each edge
 abbrev pub onEdge : List ℕ → List ℕ → Marking → ℕ → List Offer
@@ -43,9 +45,15 @@ pub record Edge (t : List ℕ) (m : Marking) (g : List ℕ) (r : Rows) (ts : Lis
 unfoldable pub done : List ℕ → List ℕ → ℕ → ℕ → ℕ → Bool
 done t rk r e j = ltb (rankOf t rk j) r || (eqb (rankOf t rk j) r && ltb j e)
 
+-- what the builder needs of the table: a good table has it
+pub record Framed (t : List ℕ) (x : Table) : Type 0 where
+  pub spans : Spans t x
+  pub sources : (j : ℕ) → j < edges t → source t j < nodes t
+  pub targets : (j : ℕ) → j < edges t → target t j < nodes t
+
 -- a table that was read, and a guard, a first offer's code and value for each edge
-pub record Sized (t g st ol : List ℕ) : Type 0 where
-  pub framed : Framed t
+pub record Sized (t : List ℕ) (x : Table) (g st ol : List ℕ) : Type 0 where
+  pub framed : Framed t x
   pub guards : edges t ≤ length g
   pub codes : edges t ≤ length st
   pub values : edges t ≤ length ol

@@ -2,8 +2,8 @@
 use mathlib.Core.Path.{_≡_}
 use Prim.Native.Nat.{ℕ, _+_, _*_, _/_, _%_, _<_}
 use mathlib.Core.List.{List}
-use lib.ListN.{getD}
-use Rattle.flow.specs.Rows.{Rows, entryOf}
+use lib.ListN.{length, getD}
+use Rattle.rows.specs.Rows.{Rows, entryOf}
 use Rattle.flow.specs.declared.Offers.{Offers}
 
 abbrev pub rowsOf : Offers → Rows
@@ -27,3 +27,15 @@ pub record Copied (m : List ℕ) (c : ℕ) (o : Offers) : Type 0 where
   pub makers-are : (i : ℕ) → i < c → getD (o .makers) i 0 ≡ getD m (16 * i + 6) 0
   pub foes-are : (i : ℕ) → i < c → getD (o .foes) i 0 ≡ getD m (16 * i + 7) 0
   pub befores : (x : ℕ) → x < 8 * c → getD (o .before) x 0 ≡ getD m (16 * (x / 8) + 8 + x % 8) 0 % 65536
+
+-- the arrays have the lengths that they are declared with, which their types as lists don't say
+pub record Full (o : Offers) : Type 0 where
+  pub lasts-full : length (o .last) ≡ 64
+  pub nodes-full : length (o .node) ≡ 64
+  pub haves-full : length (o .has) ≡ 64
+  pub values-full : length (o .value) ≡ 64
+  pub paths-full : length (o .paths) ≡ 64
+  pub parents-full : length (o .parents) ≡ 64
+  pub makers-full : length (o .makers) ≡ 64
+  pub foes-full : length (o .foes) ≡ 64
+  pub befores-full : length (o .before) ≡ 512

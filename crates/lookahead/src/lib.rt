@@ -1,26 +1,13 @@
 // The look-ahead of a join: whether it is sure that no offer can be found for every edge that is still open.
 // Words and numbers only: offers are numbers below `count`, `edges[k]` is the word of the offers on edge k, `rivals[i]` that of the offers that
 // compete with offer i. Assumes no more than its `requires`.
+use words::bit_of;
+use words::in_word;
 ghost use mathlib.Core.Path.{_≡_};
-ghost use mathlib.Core.Bool.{Bool, true};
-ghost use Prim.Native.Nat.{_≤_, _<_, _^_};
+ghost use mathlib.Core.Bool.{true};
+ghost use Prim.Native.Nat.{_≤_, _<_};
 ghost use lib.ListN.{length};
-ghost use Rattle.paper.specs.Lists.{has};
 ghost use Rattle.lookahead.specs.Dead.{Dead, Room};
-
-fn bit_of(k: usize) -> u64
-    requires { ⌜ k < 64 ⌝ }
-    ensures { λ r. ⌜ r ≡ 2 ^ k ⌝ }
-{
-    1u64 << (k as u32)
-}
-
-fn in_word(x: u64, i: usize) -> bool
-    requires { ⌜ i < 64 ⌝ }
-    ensures { λ r. ⌜ r ≡ has x i ⌝ }
-{
-    (x >> (i as u32)) % 2 == 1
-}
 
 // The open edge with the fewest free offers; `to` if none is open. A hint: `dead` tests it.
 fn fewest(edges: &[u64], from: usize, to: usize, served: u64, blocked: u64) -> usize

@@ -15,10 +15,10 @@ use Rattle.lookahead.proofs.Laws.{After, tried, tried-all, dead-drop}
 use Rattle.lookahead.proofs.dead.Reads as dead
 use Rattle.lookahead.proofs.dead.Kinds as dead-kinds
 use Rattle.lookahead.proofs.+dead.Lts-dead as dead-lts
-use Rattle.lookahead.proofs.bit_of.Reads as bit-of-reads
+use Rattle.words.proofs.bit_of.Reads as bit-of-reads
 use Rattle.lookahead.proofs.fewest.Reads as fewest-reads
 use Rattle.lookahead.proofs.idle.Reads as idle-reads
-use Rattle.lookahead.proofs.in_word.Reads as in-word-reads
+use Rattle.words.proofs.in_word.Reads as in-word-reads
 use Rattle.lookahead.proofs.+dead.{statement}
 use Rattle.lookahead.proofs.+dead.Tie.{close}
 

@@ -1,0 +1,2 @@
+-- What the search at a join promises.
+pub mod Joins

@@ -1,0 +1,3 @@
+-- Offers as rows: the view of the cells that the promises speak of.
+pub mod Sets
+pub mod Rows

@@ -1,0 +1,271 @@
+// Offers as numbered rows: what a row says, how one is put at the end, and offers extended over an edge or begun on one.
+// Assumes of the table no more than that its bytes span its counts (`Spans`).
+use table::Table;
+use wire::wide;
+use words::bit_of;
+use words::hits;
+ghost use mathlib.Core.Path.{_≡_};
+ghost use mathlib.Core.List.{List, [], _∷_, _++_};
+ghost use Prim.Native.Nat.{ℕ, _+_, _*_, _≤_, _<_};
+ghost use lib.ListN.{length, getD};
+ghost use Rattle.paper.specs.Lists.{gather};
+ghost use Rattle.paper.specs.Table.{into};
+ghost use Rattle.table.specs.Reading.{Spans};
+ghost use Rattle.paper.specs.Offers.{Offer, over};
+ghost use Rattle.paper.proofs.Members.{In};
+ghost use Rattle.rows.specs.Sets.{nth, meets};
+ghost use Rattle.rows.specs.Rows.{entryOf, rowsIn, cell, Holds, Pushed, Hits, Ready, Led, Leaves, Outcome, overs, Ext, Ranges, Pass, startOf, Begin};
+
+// While they are built the rows stand in one lent slice, so that nothing but a slice and a count goes from call to call. A row is 16 cells: last
+// edge, the node it leaves, whether there is a value, the value, the number of paths, the words of parents, makers and foes, and for each path
+// what it goes on from, 0 for nothing and 8 * j + l + 1 for path l of row j. Foes are the earlier offers that clash with a maker, so that a new
+// row changes no old one; x and y compete exactly if the foes of one meet the makers of the other.
+pub const WIDTH: usize = 16;
+
+// Places in a row; the last edge is at 0.
+pub const NODE: usize = 1;
+
+pub const HAS: usize = 2;
+
+pub const VALUE: usize = 3;
+
+pub const PATHS: usize = 4;
+
+pub const PARENTS: usize = 5;
+
+pub const MAKERS: usize = 6;
+
+pub const FOES: usize = 7;
+
+pub const BEFORE: usize = 8;
+
+// "At most 64 offers, 8 paths in an offer".
+pub const MOST_OFFERS: usize = 64;
+
+pub const MOST_PATHS: usize = 8;
+
+// One row at the end.
+fn push(
+    rows: &mut [u64],
+    count: usize,
+    last: u64,
+    node: u64,
+    has: u64,
+    value: u64,
+    paths: u64,
+    parents: u64,
+    makers: u64,
+    foes: u64,
+)
+    requires { ⌜ (count < 64) × (1024 ≤ length (now rows)) ⌝ }
+    ensures { λ _. ⌜ Pushed (rowsIn (now (rows .entry)) count) (rowsIn (now (rows .exit)) (count + 1)) (entryOf last node has value paths parents makers foes) ⌝ }
+{
+    let at = WIDTH * count;
+    rows[at] = last;
+    rows[at + NODE] = node;
+    rows[at + HAS] = has;
+    rows[at + VALUE] = value;
+    rows[at + PATHS] = paths;
+    rows[at + PARENTS] = parents;
+    rows[at + MAKERS] = makers;
+    rows[at + FOES] = foes;
+}
+
+// The rows that clash with a new one.
+fn clashes(rows: &[u64], count: usize, n: u64, k: u64, a: u64) -> u64
+    requires { ⌜ (count ≤ 64) × (1024 ≤ length (now rows)) ⌝ }
+    ensures { λ r. ⌜ Hits (rowsIn (now (rows .entry)) count) n k a count r ⌝ }
+{
+    let mut d: u64 = 0;
+    let mut j: usize = 0;
+    while j < count {
+        if hits(n, k, a, rows[WIDTH * j + NODE], rows[WIDTH * j + PARENTS]) {
+            d = d | bit_of(j);
+        }
+        j += 1;
+    }
+    d
+}
+
+// One offer more: the one place that makes a row. m and f are the makers and the foes of what it was made of.
+pub fn grow(
+    rows: &mut [u64],
+    count: usize,
+    l: u64,
+    n: u64,
+    k: u64,
+    h: u64,
+    v: u64,
+    p: u64,
+    a: u64,
+    m: u64,
+    f: u64,
+)
+    requires { ⌜ (count < 64) × (1024 ≤ length (now rows)) ⌝ }
+    ensures { λ _. ⌜ ((t : List ℕ) (ts : List Offer) (x : Offer) → Holds t (rowsIn (now (rows .entry)) count) ts → Ready t (rowsIn (now (rows .entry)) count) ts x l n k h v p a m f → Holds t (rowsIn (now (rows .exit)) (count + 1)) (ts ++ (x ∷ []))) ⌝ }
+{
+    let d = clashes(rows, count, n, k, a);
+    push(rows, count, l, n, h, v, p, a, bit_of(count) | m, f | d);
+}
+
+// The number of paths of row i.
+pub fn paths_of(rows: &[u64], i: usize) -> usize
+    requires { ⌜ (i < 64) × (1024 ≤ length (now rows)) ⌝ }
+    ensures { λ r. ⌜ (r ≤ 8) × (cell (now (rows .entry)) i 4 ≤ 8 → r ≡ cell (now (rows .entry)) i 4) ⌝ }
+{
+    let p = rows[WIDTH * i + PATHS];
+    if 8 < p {
+        return MOST_PATHS;
+    }
+    p as usize
+}
+
+// The paths of row j, n of them, are what the row to come goes on from, from its path `at` on.
+pub fn lead(rows: &mut [u64], count: usize, at: usize, j: usize, n: usize)
+    requires { ⌜ ((count < 64) × (1024 ≤ length (now rows))) × ((at ≤ 1000) × ((j < 64) × (n ≤ 8))) ⌝ }
+    ensures { λ _. ⌜ Led (now (rows .entry)) (now (rows .exit)) count at j n ⌝ }
+{
+    let mut k: usize = 0;
+    while k < n {
+        if at + k < MOST_PATHS {
+            rows[WIDTH * count + BEFORE + (at + k)] = (MOST_PATHS * j + k + 1) as u64;
+        }
+        k += 1;
+    }
+}
+
+// Whether an offer with foes f and makers m competes with one that has foes g and makers n.
+pub fn compete(f: u64, m: u64, g: u64, n: u64) -> bool
+    ensures { λ r. ⌜ r ≡ meets f m g n ⌝ }
+{
+    if f & n != 0 {
+        return true;
+    }
+    g & m != 0
+}
+
+// ---- offers extended, and first offers
+// Offer i extended over edge e, which leaves node n of kind k.
+fn extend(rows: &mut [u64], count: usize, i: usize, e: u8, n: u8, k: u8)
+    requires { ⌜ ((i < count) × (count < 64)) × (1024 ≤ length (now rows)) ⌝ }
+    ensures { λ _. ⌜ ((t : List ℕ) (ts : List Offer) → Holds t (rowsIn (now (rows .entry)) count) ts → (In (over (nth ts i) e) ts → ⊥) → Leaves t e n k → Holds t (rowsIn (now (rows .exit)) (count + 1)) (ts ++ (over (nth ts i) e ∷ []))) ⌝ }
+{
+    let p = paths_of(rows, i);
+    lead(rows, count, 0, i, p);
+    let at = WIDTH * i;
+    let h = rows[at + HAS];
+    let v = rows[at + VALUE];
+    let m = rows[at + MAKERS];
+    let f = rows[at + FOES];
+    grow(
+        rows,
+        count,
+        e as u64,
+        n as u64,
+        k as u64,
+        h,
+        v,
+        p as u64,
+        bit_of(i),
+        m,
+        f,
+    );
+}
+
+// The rows after a function that makes some, or the news that there are too many offers or paths.
+pub struct Grown {
+    pub count: usize,
+    pub ok: bool,
+}
+
+// Offers a to b extended over edge e.
+fn extend_all(rows: &mut [u64], count: usize, a: usize, b: usize, e: u8, n: u8, k: u8) -> Grown
+    requires { ⌜ ((a ≤ b) × (b ≤ count)) × ((count ≤ 64) × (1024 ≤ length (now rows))) ⌝ }
+    ensures { λ r. ⌜ ((count ≤ r .count) × (r .count ≤ 64)) × ((t : List ℕ) (ts xs : List Offer) → Ext t (rowsIn (now (rows .entry)) count) ts xs a b e n k → Outcome t (rowsIn (now (rows .exit)) (r .count)) (r .ok) (ts ++ overs e xs)) ⌝ }
+{
+    let mut c = count;
+    let mut i = a;
+    while i < b {
+        if MOST_OFFERS <= c {
+            return Grown {
+                count: c,
+                ok: false,
+            };
+        }
+        extend(rows, c, i, e, n, k);
+        c += 1;
+        i += 1;
+    }
+    Grown { count: c, ok: true }
+}
+
+// A first offer on edge e, which leaves node s of kind k: c is 0 for none, 1 for a token, 2 for the value v.
+pub fn begin(rows: &mut [u64], count: usize, e: u8, s: u8, k: u8, c: u8, v: u32) -> Grown
+    requires { ⌜ (count ≤ 64) × (1024 ≤ length (now rows)) ⌝ }
+    ensures { λ r. ⌜ ((count ≤ r .count) × (r .count ≤ 64)) × ((t : List ℕ) (ts : List Offer) → Begin t (rowsIn (now (rows .entry)) count) ts e s k c v → Outcome t (rowsIn (now (rows .exit)) (r .count)) (r .ok) (ts ++ startOf e c v)) ⌝ }
+{
+    if c == 0 {
+        return Grown {
+            count: count,
+            ok: true,
+        };
+    }
+    if MOST_OFFERS <= count {
+        return Grown {
+            count: count,
+            ok: false,
+        };
+    }
+    rows[WIDTH * count + BEFORE] = 0;
+    grow(
+        rows,
+        count,
+        e as u64,
+        s as u64,
+        k as u64,
+        (c - 1) as u64,
+        v as u64,
+        1,
+        0,
+        0,
+        0,
+    );
+    Grown {
+        count: count + 1,
+        ok: true,
+    }
+}
+
+// The offers on each incoming edge of node s extended over edge e. `from` and `to` are the segments of the edges.
+pub fn pass(
+    rows: &mut [u64],
+    count: usize,
+    t: &[u8],
+    table: Table,
+    from: &[u8],
+    to: &[u8],
+    s: u8,
+    e: u8,
+    k: u8,
+) -> Grown
+    requires { ⌜ (Spans (now t) table × ((count ≤ 64) × (1024 ≤ length (now rows)))) × (Ranges (now from) (now to) count × ((64 ≤ length (now from)) × (64 ≤ length (now to)))) ⌝ }
+    ensures { λ r. ⌜ ((count ≤ r .count) × (r .count ≤ 64)) × ((ts : List Offer) (on : ℕ → List Offer) → Pass (now (t .entry)) (rowsIn (now (rows .entry)) count) ts on (now (from .entry)) (now (to .entry)) s e k → Outcome (now (t .entry)) (rowsIn (now (rows .exit)) (r .count)) (r .ok) (ts ++ overs e (gather on (into (now (t .entry)) s)))) ⌝ }
+{
+    let node = wide(s);
+    let n = table.edges;
+    let mut c = count;
+    let mut j: usize = 0;
+    while j < n {
+        if table.target(t, j) == node {
+            let a = wide(from[j]);
+            let b = wide(to[j]);
+            let g = extend_all(rows, c, a, b, e, s, k);
+            if !g.ok {
+                return g;
+            }
+            c = g.count;
+        }
+        j += 1;
+    }
+    Grown { count: c, ok: true }
+}

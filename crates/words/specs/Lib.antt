@@ -1,0 +1,2 @@
+-- What words of offers say.
+pub mod Clash
