@@ -1,0 +1,156 @@
+-- Rows 5 to 8 of a good table, row by row: what the readers' answers make of the board. Assumes nothing.
+use Prim.Native.Nat.{ℕ, _≤_, _<_}
+use mathlib.Core.Path.{_≡_, refl, sym, ap, subst, _∙_}
+use mathlib.Core.Bool.{Bool, true, false, not, _&&_}
+use mathlib.Core.List.{List}
+use mathlib.Core.Option.{Option, none, some}
+use native.Mathlib.Omega.{arith}
+use lib.Dec.{leb}
+use lib.ListN.{length}
+use borrow.Author.Tests.{le-leb, lt-leb}
+use Rattle.paper.specs.Lists.{below, gather}
+use Rattle.paper.specs.Limits.{limits}
+use Rattle.paper.specs.Answers.{Answer, refused, good, _>>=_, need}
+use Rattle.paper.specs.Table.{nodes, edges, isControlNode, kind, source}
+use Rattle.paper.specs.Marking.{Marking, marking, Good as GoodMarking}
+use Rattle.paper.specs.Offers.{Offer, first, elem, goesOver, guardsFine, offers, offersOn, ends, sizesFine}
+use Rattle.paper.specs.Choices.{Board, board, boardOf}
+use Rattle.paper.proofs.Bools.{and-true, and-both, and-never, iff}
+use Rattle.paper.proofs.Bytes.{Bytes}
+use Rattle.paper.proofs.Ladders.{no-good, same-good}
+use Rattle.paper.proofs.Members.{In, in-gather, gather-in, in-below, below-in}
+use Rattle.paper.proofs.Sameness.{elem-in, in-elem}
+use Rattle.paper.proofs.OneMarking.{read-is-good}
+use Rattle.table.specs.declared.Table.{Table}
+use Rattle.table.specs.Reading.{tableRead}
+use Rattle.table.proofs.Reading.{read-fine, read-good}
+use Rattle.marking.specs.declared.reading.MarkingAnswer.{MarkingAnswer}
+use Rattle.marking.specs.declared.reading.MarkingAnswer.the-variants.{Live, Ended, Refused as NoMarking}
+use Rattle.rows.specs.Sets.{nth}
+use Rattle.rows.specs.Rows.{Rows, fine}
+use Rattle.flow.specs.Stages.{Input, Whole, onEdge}
+use Rattle.flow.specs.Struct.{rowsOf, Full}
+use Rattle.flow.proofs.Inputs.{good-flat}
+use Rattle.holding.specs.Holding.{NodesHeld, EdgesHeld, HeldRead}
+use Rattle.ends.specs.declared.EndsAnswer.{EndsAnswer}
+use Rattle.ends.specs.declared.EndsAnswer.the-variants.{Good, Refused}
+use Rattle.ends.specs.Ends.{Listed, Arranged}
+use Rattle.seating.specs.Seating.{Seated}
+use Rattle.flow.specs.declared.Offers.{Offers}
+use Rattle.board.specs.Starts.{Begun}
+use Rattle.board.specs.Reading.{Held, held, Seats, Holding, LiveHeld, Laid, BoardRead}
+use Rattle.board.proofs.StartLaws.{starts-are}
+
+-- ---- rows 5 and 6: the answer of the marking's reader
+module _ (t b from kept runs tokens : List ℕ) where
+  refused-read : (o : Option Marking) (n p : ℕ) → HeldRead t b from kept runs tokens o (NoMarking n p) → (o ≡ none) × (n ≡ 5) × (p ≡ 0)
+  refused-read none n p h = (refl, cc h, cc h)
+  refused-read (some m) n p h = no-good (h .0)
+
+  ended-read : (o : Option Marking) → HeldRead t b from kept runs tokens o Ended → (m : Marking) × (o ≡ some m) × (m .ended ≡ true)
+  ended-read none h = no-good (sym h)
+  ended-read (some m) h = (m, refl, sym (same-good (h .0)))
+
+  live-read : (o : Option Marking) → marking t b ≡ o → HeldRead t b from kept runs tokens o Live
+      → LiveHeld t b (held from kept runs tokens)
+  live-read none e h = no-good (sym h)
+  live-read (some m) e h = record { current = m; is-read = e; live = sym (same-good (h .0)); holding = record { nodes-held = h .1; edges-held = h .2 } }
+
+  pub live-held : (r : MarkingAnswer) → r ≡ Live → HeldRead t b from kept runs tokens (marking t b) r
+      → LiveHeld t b (held from kept runs tokens)
+  live-held r e h = live-read (marking t b) refl (rw e at h)
+
+-- ---- the ladder
+module _ (t b g : List ℕ) {x : Table} (e : tableRead t ≡ good x) where
+  module _ (from kept runs tokens : List ℕ) (r : MarkingAnswer) (h : HeldRead t b from kept runs tokens (marking t b) r) where
+    pub board-5 : (n p : ℕ) → r ≡ NoMarking n p → board t b g ≡ refused n p
+    unfolding board
+    board-5 n p q = let z = refused-read t b from kept runs tokens (marking t b) n p (rw q at h) in rw (read-fine t e, z .0, z .1, z .2)
+
+    pub board-6 : r ≡ Ended → board t b g ≡ refused 6 0
+    unfolding board boardOf
+    board-6 q = let z = ended-read t b from kept runs tokens (marking t b) (rw q at h) in rw (read-fine t e, z .1, z .2)
+
+  module _ {y : Held} (l : LiveHeld t b y) where
+    pub board-7 : guardsFine t g ≡ false → board t b g ≡ refused 7 0
+    unfolding board boardOf
+    board-7 n = rw (read-fine t e, l .is-read, l .live, n)
+
+    module _ (f : guardsFine t g ≡ true) where
+      abbrev os : List Offer
+      os = offers t (goesOver g) (l .current)
+
+      abbrev theBoard : Board
+      theBoard = record { table = t; current = l .current; allOffers = os; allEnds = ends t os }
+
+      -- the last row is left
+      last-row : board t b g ≡ (need 8 (sizesFine t os) >>= (λ u. good theBoard))
+      unfolding board boardOf
+      last-row = rw (read-fine t e, l .is-read, l .live, f)
+
+      not-fine : sizesFine t os ≡ false → board t b g ≡ refused 8 0
+      not-fine n = last-row ∙ ap (λ (s : Bool). need 8 s >>= (λ u. good theBoard)) n
+
+      -- too many offers or paths
+      pub board-8 : fine os ≡ false → board t b g ≡ refused 8 0
+      unfolding sizesFine fine
+      board-8 n = not-fine (rw n)
+
+      -- too many ends
+      pub board-8-ends : limits .mostEnds < length (ends t os) → board t b g ≡ refused 8 0
+      unfolding sizesFine fine
+      board-8-ends n = not-fine (rw (lt-leb (length (ends t os)) (limits .mostEnds) n) (and-never (fine os)))
+
+      board-is : fine os ≡ true → length (ends t os) ≤ limits .mostEnds → board t b g ≡ good theBoard
+      unfolding sizesFine fine
+      board-is n m = last-row ∙ ap (λ (s : Bool). need 8 s >>= (λ u. good theBoard)) (and-both _ _ n (le-leb (length (ends t os)) (limits .mostEnds) m))
+
+      -- the trees of the rows are the offers, edge by edge in another order
+      same-offers : (r : Rows) (a c : List ℕ) (w : Whole t (l .current) g r a c) (o : Offer)
+          → elem o (gather (onEdge t g (l .current)) (w .order)) ≡ elem o os
+      unfolding offers
+      same-offers r a c w o =
+          iff _ _
+          (λ h. let k = in-gather (onEdge t g (l .current)) (w .order) (elem-in _ h) in in-elem (gather-in (onEdge t g (l .current)) (below-in (edges t) (w .only-edges (k .0) (k .1))) (k .2)))
+          (λ h. let k = in-gather (onEdge t g (l .current)) (below (edges t)) (elem-in _ h) in in-elem (gather-in (onEdge t g (l .current)) (w .all-edges (k .0) (in-below (edges t) (k .1))) (k .2)))
+
+      pub board-laid : (o : Offers) → Full o → (z : Seats) (n : ℕ) (a c : List ℕ) (w : Whole t (l .current) g (rowsOf o) a c)
+          → Listed (gather (onEdge t g (l .current)) (w .order)) (ends t os) (z .ends) (z .order) (z .lens) (z .cells) n → Laid t b g o y z n
+      board-laid o full z n a c w s = record {
+        on = theBoard;
+        trees = gather (onEdge t g (l .current)) (w .order);
+        is-board = board-is (w .sizes) (rw (s .number) at (s .few));
+        full = full;
+        seated = record {
+          table-is = refl;
+          holds-ts = w .holds-ts;
+          offers-are = same-offers (rowsOf o) a c w;
+          number = s .number;
+          few = s .few;
+          inside = s .inside;
+          ends-are = s .ends-are;
+        };
+        listed = s;
+        holding = l .holding;
+      }
+
+      -- the ends' answer is the board's
+      pub board-read : (o : Offers) → Full o → (z : Seats) (r : EndsAnswer) (a c : List ℕ) (w : Whole t (l .current) g (rowsOf o) a c)
+          → Arranged r (gather (onEdge t g (l .current)) (w .order)) (ends t os) (z .ends) (z .order) (z .lens) (z .cells) → BoardRead t b g o y z r
+      board-read o full z (Good n) a c w h = board-laid o full z n a c w h
+      board-read o full z (Refused n p) a c w h = rw (h .0, h .1 .0) (board-8-ends (h .1 .1))
+
+-- a refusal is the board's
+pub refused-board : (t b g : List ℕ) (o : Offers) (y : Held) (z : Seats) (r : EndsAnswer) (n p : ℕ) → r ≡ Refused n p → board t b g ≡ refused n p → BoardRead t b g o y z r
+refused-board t b g o y z r n p e h = rw e h
+
+-- ---- first offers, for the builder
+pub begun-input : (t b : List ℕ) {x : Table} → tableRead t ≡ good x → (y : Held) (codes values : List ℕ) (m : Marking) → GoodMarking t m → Holding t b m y
+    → Begun t b (y .from) (y .kept) (y .tokens) codes values (edges t) → Input t m codes values
+begun-input t b e y codes values m ok h g = record {
+  flat = good-flat t e;
+  starts = λ j l c. starts-are t b (y .from) (y .kept) (y .tokens) codes values (y .runs) m ok (h .nodes-held) (h .edges-held) g j l (read-good t e .edge j l .source-fits);
+}
+
+pub live-good : (t b : List ℕ) (y : Held) (l : LiveHeld t b y) → Bytes b → GoodMarking t (l .current)
+live-good t b y l u = read-is-good t b (l .current) u (l .is-read) .0

@@ -1,0 +1,105 @@
+-- First offers: a code and a value for each edge are what the definition says of the marking that the slices hold. Assumes nothing.
+use Prim.Native.Nat.{ℕ, zero, suc, _+_, _*_, _-_, _^_, _≤_, _<_}
+use mathlib.Core.Path.{_≡_, refl, sym, ap, subst, _∙_}
+use mathlib.Core.Bool.{Bool, true, false, cond}
+use mathlib.Core.List.{List, [], _∷_, _++_}
+use mathlib.Core.Option.{Option, none, some}
+use native.Mathlib.Omega.{arith}
+use lib.Dec.{eqb, leb, ltb}
+use lib.ListN.{length, take, drop, set}
+use borrow.Author.Tests.{le-leb, lt-leb, eq-eqb, ne-eqb}
+use Rattle.paper.specs.Lists.{at, gather}
+use Rattle.paper.specs.Limits.{limits}
+use Rattle.paper.specs.Bytes.{four}
+use Rattle.paper.specs.Table.{nodes, edges, kind, source, isObjectNode, isControlNode}
+use Rattle.paper.specs.Marking.{Marking, Good, counted, hasStock, stockOf}
+use Rattle.paper.specs.Offers.{Offer, first, firsts}
+use Rattle.paper.proofs.Bools.{and-never}
+use Rattle.paper.proofs.Bytes.{four-back}
+use Rattle.paper.proofs.Lengths.{drop-four}
+use Rattle.paper.proofs.Cursor.{wordAt}
+use Rattle.paper.proofs.OneMarking.{good-elsewhere}
+use Rattle.marking.specs.Values.{ValuesNoted}
+use Rattle.holding.specs.Holding.{NodesHeld, EdgesHeld}
+use Rattle.holding.proofs.HoldingLaws.{set-more}
+use Rattle.rows.specs.Rows.{startOf}
+use Rattle.board.specs.Starts.{startCode, Begun}
+
+-- ---- the code of one edge
+module _ (t kept tokens : List ℕ) (e : ℕ) where
+  pub code-counted : counted t e ≡ true → startCode t kept tokens e ≡ cond (eqb (at tokens e) 0) 0 1
+  unfolding startCode
+  code-counted h = rw h
+
+  pub code-stocked : counted t e ≡ false → isObjectNode (kind t (source t e)) ≡ true → startCode t kept tokens e ≡ cond (eqb (at kept (source t e)) 0) 0 2
+  unfolding startCode
+  code-stocked h k = rw (h, k)
+
+  pub code-neither : counted t e ≡ false → isObjectNode (kind t (source t e)) ≡ false → startCode t kept tokens e ≡ 0
+  unfolding startCode
+  code-neither h k = rw (h, k)
+
+-- ---- the oldest value, in the bytes
+four-heads : {a b c d x y z w : ℕ} {xs ys : List ℕ} → a ∷ b ∷ c ∷ d ∷ xs ≡ x ∷ y ∷ z ∷ w ∷ ys → (a ≡ x) × (b ≡ y) × (c ≡ z) × (d ≡ w)
+four-heads h = (cc h, cc h, cc h, cc h)
+
+oldest-is : (b : List ℕ) (v : ℕ) (vs : List ℕ) (p n : ℕ) → v < 2 ^ 32 → ValuesNoted b (v ∷ vs) p n → (p + 4 ≤ length b) × (wordAt b p ≡ v)
+oldest-is b v vs p n small h =
+    let l : n ≡ suc (length vs) = h .many in
+    let room : p + 4 ≤ length b = omega (arith, h .inside) in
+    let q : 4 * n ≡ suc (suc (suc (suc (4 * length vs)))) = omega arith in
+    let s = rw (q, drop-four b p room) at (h .stand) in
+    let r = four-heads s in
+    (room, rw (← r .0, ← r .1, ← r .2, ← r .3) (four-back v small))
+
+-- ---- all edges
+module _ (t b from kept tokens codes values runs : List ℕ) (m : Marking) (ok : Good t m) (h : NodesHeld t m b from kept runs (nodes t)) (k : EdgesHeld t (m .tokens) tokens (edges t)) (g : Begun t b from kept tokens codes values (edges t)) where
+  module _ (e : ℕ) (l : e < edges t) (s : source t e < nodes t) where
+    abbrev Starts : Type 0
+    Starts = firsts t m e ≡ startOf e (at codes e) (at values e)
+
+    from-count : counted t e ≡ true → Starts
+    unfolding firsts
+    from-count c = by (m .tokens e) refl
+      where
+        by : (n : ℕ) → m .tokens e ≡ n → Starts
+        by zero z = rw (c, z, g .codes-are e l ∙ code-counted t kept tokens e c, k .counts e l c ∙ z)
+        by (suc n) z =
+            rw (c, z, g .codes-are e l ∙ code-counted t kept tokens e c, k .counts e l c ∙ z, le-leb 1 (suc n) (omega arith), ne-eqb (suc n) 0 (λ x. omega (arith, x)))
+
+    from-stock : counted t e ≡ false → isObjectNode (kind t (source t e)) ≡ true → Starts
+    unfolding firsts
+    from-stock c o = by (m .stock (source t e)) refl
+      where
+        by : (vs : List ℕ) → m .stock (source t e) ≡ vs → Starts
+        by [] z = let n = h .stocks (source t e) s o in rw (c, z, g .codes-are e l ∙ code-stocked t kept tokens e c o, n .many, z)
+        by (v ∷ vs) z =
+            let n = h .stocks (source t e) s o in
+            let small : v < 2 ^ 32 = rw z at (ok .values (source t e) 0) in
+            let w = oldest-is b v vs (at from (source t e)) (at kept (source t e)) small (subst (λ (xs : List ℕ). ValuesNoted b xs (at from (source t e)) (at kept (source t e))) z n) in
+            rw (c, z, g .codes-are e l ∙ code-stocked t kept tokens e c o, n .many, z, g .values-are e l (w .0) ∙ w .1, ne-eqb (length (v ∷ vs)) 0 (λ x. omega (arith, x)))
+
+    from-none : counted t e ≡ false → isObjectNode (kind t (source t e)) ≡ false → Starts
+    unfolding firsts
+    from-none c o =
+        let z : m .stock (source t e) ≡ [] = sym (good-elsewhere t m ok (stockOf (source t e)) (rw o (and-never (ltb (source t e) (nodes t))))) in
+        rw (c, z, g .codes-are e l ∙ code-neither t kept tokens e c o)
+
+    pub starts-are : Starts
+    starts-are = by (counted t e) refl (isObjectNode (kind t (source t e))) refl
+      where
+        by : (c : Bool) → counted t e ≡ c → (o : Bool) → isObjectNode (kind t (source t e)) ≡ o → Starts
+        by true c o d = from-count c
+        by false c true d = from-stock c d
+        by false c false d = from-none c d
+
+-- ---- edge after edge
+pub begun-none : (t b from kept tokens codes values : List ℕ) → Begun t b from kept tokens codes values 0
+begun-none t b from kept tokens codes values = record { codes-are = λ e l. absurd (omega arith); values-are = λ e l. absurd (omega arith) }
+
+pub begun-more : {t b from kept tokens : List ℕ} (codes values : List ℕ) (e c v : ℕ) → e < length codes → e < length values → Begun t b from kept tokens codes values e
+    → c ≡ startCode t kept tokens e → (at from (source t e) + 4 ≤ length b → v ≡ wordAt b (at from (source t e))) → Begun t b from kept tokens (set codes e c) (set values e v) (e + 1)
+begun-more {t} {b} {from} {kept} {tokens} codes values e c v lc lv h p q = record {
+  codes-are = set-more (λ k x. x ≡ startCode t kept tokens k) codes e c lc (h .codes-are) p;
+  values-are = set-more (λ k x. at from (source t k) + 4 ≤ length b → x ≡ wordAt b (at from (source t k))) values e v lv (h .values-are) q;
+}

@@ -1,0 +1,63 @@
+-- `arranged`: the columns of the offers, lent. Assumes nothing.
+use mathlib.Core.Path.{_≡_, sym}
+use native.Mathlib.Omega.{arith}
+use Rattle.flow.specs.Struct.{rowsOf}
+use Rattle.ends.proofs.Columns.{seen-struct}
+use borrow.Author.Needs.{needs}
+use Rattle.board.proofs.reading.arranged.Statement.{statement}
+use Rattle.board.proofs.reading.arranged.Tie as tie
+
+slice-aggregate-arrange : tie.Need-slice-aggregate-arrange
+slice-aggregate-arrange c = sym (c .before .before .before .before .before .before .before .before .before .before .before .pre .1 .lasts-full)
+
+slice-aggregate-arrange-2 : tie.Need-slice-aggregate-arrange-2
+slice-aggregate-arrange-2 c = sym (c .before .before .before .before .before .before .before .before .before .before .before .before .pre .1 .paths-full)
+
+slice-aggregate-arrange-3 : tie.Need-slice-aggregate-arrange-3
+slice-aggregate-arrange-3 c = sym (c .before .before .before .before .before .before .before .before .before .before .before .before .before .pre .1 .befores-full)
+
+arrange-requires : tie.Need-arrange-requires
+arrange-requires c κs = let h = c .before .before .before .before .before .before .before .before .before .before .before .before .before .before .before .before .before .pre in (
+  h .0,
+  record {
+    lasts = omega (arith, h .1 .lasts-full);
+    numbers = omega (arith, h .1 .paths-full);
+    befores = omega (arith, h .1 .befores-full);
+    froms = h .2 .0;
+    tos = h .2 .1;
+    ranges = h .2 .2;
+    rows-room = h .3 .ends-room;
+    order-room = h .3 .order-room;
+    lens-room = h .3 .lens-room;
+    cells-room = h .3 .cells-room;
+  },
+)
+
+same-length : tie.Need-same-length
+same-length c = search needs
+
+same-length-2 : tie.Need-same-length-2
+same-length-2 c = search needs
+
+same-length-3 : tie.Need-same-length-3
+same-length-3 c = search needs
+
+same-length-4 : tie.Need-same-length-4
+same-length-4 c = search needs
+
+returns : tie.Need-returns
+returns c = let a = c .before .before .before .before .before .before .before .before .before .before .before .before .before .before .before .before .before .before .before .before .before .before .before .before .before .before .args in λ m g y. c .before .before .before .before .before .before .before .before .arrange .ensures .1 m g (rowsOf (a .offers)) (seen-struct (a .offers)) y
+
+pub arranged-spec : {M : Type 1} → statement M
+arranged-spec =
+    tie.close
+    (tie.spec
+    slice-aggregate-arrange
+    slice-aggregate-arrange-2
+    slice-aggregate-arrange-3
+    arrange-requires
+    same-length
+    same-length-2
+    same-length-3
+    same-length-4
+    returns)

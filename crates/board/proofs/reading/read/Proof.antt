@@ -1,0 +1,189 @@
+-- `read`: row after row, each by what its reader answers. Assumes nothing.
+use mathlib.Core.Path.{_≡_, sym, _∙_}
+use native.Mathlib.Omega.{arith}
+use lib.ListN.{length}
+use borrow.Author.Tests.{not-true, not-false}
+use Rattle.paper.specs.Table.{nodes, edges}
+use Rattle.table.proofs.Reading.{read-spans}
+use Rattle.board.specs.Reading.{held, seats}
+use Rattle.board.proofs.GuardLaws.{guards-long}
+use Rattle.board.proofs.Ladder.{board-5, board-6, board-7, live-held, refused-board}
+use borrow.Author.Needs.{needs}
+use Rattle.board.proofs.reading.read.Statement.{statement}
+use Rattle.board.proofs.reading.read.Tie as tie
+
+take-up-requires : tie.Need-take-up-requires
+take-up-requires c κs = let a = c .before .before .before .before .before .before .before .before .before .before .before .before .before .before .before .args in
+    let h = c .before .before .before .before .before .before .before .before .before .before .before .before .before .before .before .pre in
+    let t = a .t .now in
+    let b = a .b .now in
+    let g = a .g .now in
+    let s = read-spans t (h .0) in
+    (h .0, omega (arith, h .1 .froms, s .nodes-read), omega (arith, h .1 .kepts, s .nodes-read), omega (arith, h .1 .runs-there, s .nodes-read), omega (arith, h .1 .tokens-there, s .edges-read))
+
+enum-told : tie.Need-enum-told
+enum-told c = search needs
+
+enum-told-2 : tie.Need-enum-told-2
+enum-told-2 c = search needs
+
+refused-requires : tie.Need-refused-requires
+refused-requires c κs = search needs
+
+same-length : tie.Need-same-length
+same-length c = search needs
+
+same-length-2 : tie.Need-same-length-2
+same-length-2 c = search needs
+
+same-length-3 : tie.Need-same-length-3
+same-length-3 c = search needs
+
+same-length-4 : tie.Need-same-length-4
+same-length-4 c = search needs
+
+returns : tie.Need-returns
+returns c = let a = c .before .before .before .before .before .before .before .before .before .before .before .before .before .before .before .before .before .before .before .before .before .before .before .before .before .before .before .args in
+    let h = c .before .before .before .before .before .before .before .before .before .before .before .before .before .before .before .before .before .before .before .before .before .before .before .before .before .before .before .pre in
+    let t = a .t .now in
+    let b = a .b .now in
+    let g = a .g .now in
+    refused-board t b g (c .refused .result .offers) (held (c .before .before .before .before .before .before .before .before .before .before .before .take-up .last .1 .1 .1 .0) (c .before .before .before .before .before .before .before .before .before .before .before .take-up .last .1 .1 .1 .1 .0) (c .before .before .before .before .before .before .before .before .before .before .before .take-up .last .1 .1 .1 .1 .1 .0) (c .before .before .before .before .before .before .before .before .before .before .before .take-up .last .1 .1 .1 .1 .1 .1 .0)) (seats (a .ends .now) (a .order .now) (a .lens .now) (a .cells .now)) (c .refused .result .answer) 6 0 (c .refused .ensures)
+    (board-6 t b g (h .0) (c .before .before .before .before .before .before .before .before .before .before .before .take-up .last .1 .1 .1 .0) (c .before .before .before .before .before .before .before .before .before .before .before .take-up .last .1 .1 .1 .1 .0) (c .before .before .before .before .before .before .before .before .before .before .before .take-up .last .1 .1 .1 .1 .1 .0) (c .before .before .before .before .before .before .before .before .before .before .before .take-up .last .1 .1 .1 .1 .1 .1 .0) (c .before .before .before .before .before .before .before .before .before .before .before .take-up .result) (c .before .before .before .before .before .before .before .before .before .before .before .take-up .ensures) (c .before .enum-told2 .given .1))
+
+enum-known-number : tie.Need-enum-known-number
+enum-known-number c = search needs
+
+refused-requires-2 : tie.Need-refused-requires-2
+refused-requires-2 c κs = search needs
+
+same-length-5 : tie.Need-same-length-5
+same-length-5 c = search needs
+
+same-length-6 : tie.Need-same-length-6
+same-length-6 c = search needs
+
+same-length-7 : tie.Need-same-length-7
+same-length-7 c = search needs
+
+same-length-8 : tie.Need-same-length-8
+same-length-8 c = search needs
+
+returns-2 : tie.Need-returns-2
+returns-2 c = let a = c .before .before .before .before .before .before .before .before .before .before .before .before .before .before .before .before .before .before .before .before .before .before .before .before .before .before .before .before .args in
+    let h = c .before .before .before .before .before .before .before .before .before .before .before .before .before .before .before .before .before .before .before .before .before .before .before .before .before .before .before .before .pre in
+    let t = a .t .now in
+    let b = a .b .now in
+    let g = a .g .now in
+    let q = c .before .before .number .given in
+    refused-board t b g (c .refused2 .result .offers) (held (c .before .before .before .before .before .before .before .before .before .before .before .before .take-up .last .1 .1 .1 .0) (c .before .before .before .before .before .before .before .before .before .before .before .before .take-up .last .1 .1 .1 .1 .0) (c .before .before .before .before .before .before .before .before .before .before .before .before .take-up .last .1 .1 .1 .1 .1 .0) (c .before .before .before .before .before .before .before .before .before .before .before .before .take-up .last .1 .1 .1 .1 .1 .1 .0)) (seats (a .ends .now) (a .order .now) (a .lens .now) (a .cells .now)) (c .refused2 .result .answer) _ _ (c .refused2 .ensures)
+    (board-5 t b g (h .0) (c .before .before .before .before .before .before .before .before .before .before .before .before .take-up .last .1 .1 .1 .0) (c .before .before .before .before .before .before .before .before .before .before .before .before .take-up .last .1 .1 .1 .1 .0) (c .before .before .before .before .before .before .before .before .before .before .before .before .take-up .last .1 .1 .1 .1 .1 .0) (c .before .before .before .before .before .before .before .before .before .before .before .before .take-up .last .1 .1 .1 .1 .1 .1 .0) (c .before .before .before .before .before .before .before .before .before .before .before .before .take-up .result) (c .before .before .before .before .before .before .before .before .before .before .before .before .take-up .ensures) _ _ (q .1))
+
+guards-fine-requires : tie.Need-guards-fine-requires
+guards-fine-requires c κs = read-spans (c .before .before .before .before .before .before .before .before .before .before .before .before .before .before .before .before .before .before .before .before .before .before .before .before .before .before .args .t .now) (c .before .before .before .before .before .before .before .before .before .before .before .before .before .before .before .before .before .before .before .before .before .before .before .before .before .before .pre .0)
+
+refused-requires-3 : tie.Need-refused-requires-3
+refused-requires-3 c κs = search needs
+
+same-length-9 : tie.Need-same-length-9
+same-length-9 c = search needs
+
+same-length-10 : tie.Need-same-length-10
+same-length-10 c = search needs
+
+same-length-11 : tie.Need-same-length-11
+same-length-11 c = search needs
+
+same-length-12 : tie.Need-same-length-12
+same-length-12 c = search needs
+
+returns-3 : tie.Need-returns-3
+returns-3 c = let a = c .before .before .before .before .before .before .before .before .before .before .before .before .before .before .before .before .before .before .before .before .before .before .before .before .before .before .before .before .before .args in
+    let h = c .before .before .before .before .before .before .before .before .before .before .before .before .before .before .before .before .before .before .before .before .before .before .before .before .before .before .before .before .before .pre in
+    let t = a .t .now in
+    let b = a .b .now in
+    let g = a .g .now in
+    let l = live-held t b (c .before .before .before .before .before .before .before .before .before .before .before .before .before .take-up .last .1 .1 .1 .0) (c .before .before .before .before .before .before .before .before .before .before .before .before .before .take-up .last .1 .1 .1 .1 .0) (c .before .before .before .before .before .before .before .before .before .before .before .before .before .take-up .last .1 .1 .1 .1 .1 .0) (c .before .before .before .before .before .before .before .before .before .before .before .before .before .take-up .last .1 .1 .1 .1 .1 .1 .0) (c .before .before .before .before .before .before .before .before .before .before .before .before .before .take-up .result) (c .before .before .before .enum-told .given .1) (c .before .before .before .before .before .before .before .before .before .before .before .before .before .take-up .ensures) in
+    refused-board t b g (c .refused3 .result .offers) (held (c .before .before .before .before .before .before .before .before .before .before .before .before .before .take-up .last .1 .1 .1 .0) (c .before .before .before .before .before .before .before .before .before .before .before .before .before .take-up .last .1 .1 .1 .1 .0) (c .before .before .before .before .before .before .before .before .before .before .before .before .before .take-up .last .1 .1 .1 .1 .1 .0) (c .before .before .before .before .before .before .before .before .before .before .before .before .before .take-up .last .1 .1 .1 .1 .1 .1 .0)) (seats (a .ends .now) (a .order .now) (a .lens .now) (a .cells .now)) (c .refused3 .result .answer) 7 0 (c .refused3 .ensures)
+    (board-7 t b g (h .0) l (sym (c .before .before .guards-fine .ensures) ∙ not-true _ (c .before .if1 .taken)))
+
+seat-requires : tie.Need-seat-requires
+seat-requires c κs = let a = c .before .before .before .before .before .before .before .before .before .before .before .before .before .before .before .before .before .before .before .before .before .before .before .before .before .before .before .before .before .before .before .before .before .before .before .args in
+    let h = c .before .before .before .before .before .before .before .before .before .before .before .before .before .before .before .before .before .before .before .before .before .before .before .before .before .before .before .before .before .before .before .before .before .before .before .pre in
+    let t = a .t .now in
+    let b = a .b .now in
+    let g = a .g .now in
+    let f = sym (c .before .before .before .before .before .before .before .before .guards-fine .ensures) ∙ not-false _ (c .before .before .before .before .before .before .before .if1 .left) in
+    let k = c .before .before .before .before .before .before .before .before .before .before .before .before .before .before .before .before .before .before .before .take-up .kept in
+    ((h .0, guards-long t g f, omega (arith, h .1 .froms, k), omega (arith, h .1 .kepts, k), omega (arith, h .1 .tokens-there, k)), h .2)
+
+same-length-13 : tie.Need-same-length-13
+same-length-13 c = omega (arith, c .before .before .before .before .before .before .before .before .before .before .before .before .before .before .before .before .before .before .before .before .before .before .before .before .before .before .before .before .take-up .kept, c .before .before .before .before .before .before .before .before .seat .kept)
+
+same-length-14 : tie.Need-same-length-14
+same-length-14 c = omega (arith, c .before .before .before .before .before .before .before .before .before .before .before .before .before .before .before .before .before .before .before .before .before .before .before .before .before .before .before .before .take-up .kept, c .before .before .before .before .before .before .before .before .seat .kept)
+
+same-length-15 : tie.Need-same-length-15
+same-length-15 c = omega (arith, c .before .before .before .before .before .before .before .before .before .before .before .before .before .before .before .before .before .before .before .before .before .before .before .before .before .before .before .before .take-up .kept, c .before .before .before .before .before .before .before .before .seat .kept)
+
+same-length-16 : tie.Need-same-length-16
+same-length-16 c = search needs
+
+same-length-17 : tie.Need-same-length-17
+same-length-17 c = search needs
+
+same-length-18 : tie.Need-same-length-18
+same-length-18 c = search needs
+
+same-length-19 : tie.Need-same-length-19
+same-length-19 c = search needs
+
+same-length-20 : tie.Need-same-length-20
+same-length-20 c = search needs
+
+returns-4 : tie.Need-returns-4
+returns-4 c = let a = c .before .before .before .before .before .before .before .before .before .before .before .before .before .before .before .before .before .before .before .before .before .before .before .before .before .before .before .before .before .before .before .before .before .before .before .before .before .before .before .before .before .before .before .before .args in
+    let h = c .before .before .before .before .before .before .before .before .before .before .before .before .before .before .before .before .before .before .before .before .before .before .before .before .before .before .before .before .before .before .before .before .before .before .before .before .before .before .before .before .before .before .before .before .pre in
+    let t = a .t .now in
+    let b = a .b .now in
+    let g = a .g .now in
+    let l = live-held t b (c .before .before .before .before .before .before .before .before .before .before .before .before .before .before .before .before .before .before .before .before .before .before .before .before .before .before .before .before .take-up .last .1 .1 .1 .0) (c .before .before .before .before .before .before .before .before .before .before .before .before .before .before .before .before .before .before .before .before .before .before .before .before .before .before .before .before .take-up .last .1 .1 .1 .1 .0) (c .before .before .before .before .before .before .before .before .before .before .before .before .before .before .before .before .before .before .before .before .before .before .before .before .before .before .before .before .take-up .last .1 .1 .1 .1 .1 .0) (c .before .before .before .before .before .before .before .before .before .before .before .before .before .before .before .before .before .before .before .before .before .before .before .before .before .before .before .before .take-up .last .1 .1 .1 .1 .1 .1 .0) (c .before .before .before .before .before .before .before .before .before .before .before .before .before .before .before .before .before .before .before .before .before .before .before .before .before .before .before .before .take-up .result) (c .before .before .before .before .before .before .before .before .before .before .before .before .before .before .before .before .before .before .enum-told .given .1) (c .before .before .before .before .before .before .before .before .before .before .before .before .before .before .before .before .before .before .before .before .before .before .before .before .before .before .before .before .take-up .ensures) in
+    c .before .before .before .before .before .before .before .before .seat .ensures (c .before .before .before .before .before .before .before .before .before .before .before .before .before .before .before .before .before .before .before .before .before .before .before .before .before .before .before .before .take-up .last .1 .1 .1 .1 .1 .0) l (sym (c .before .before .before .before .before .before .before .before .before .before .before .before .before .before .before .before .before .guards-fine .ensures) ∙ not-false _ (c .before .before .before .before .before .before .before .before .before .before .before .before .before .before .before .before .if1 .left))
+
+pub read-spec : {M : Type 1} → statement M
+read-spec =
+    tie.close
+    (tie.spec
+    take-up-requires
+    enum-told
+    enum-told-2
+    refused-requires
+    same-length
+    same-length-2
+    same-length-3
+    same-length-4
+    returns
+    enum-known-number
+    refused-requires-2
+    same-length-5
+    same-length-6
+    same-length-7
+    same-length-8
+    returns-2
+    guards-fine-requires
+    refused-requires-3
+    same-length-9
+    same-length-10
+    same-length-11
+    same-length-12
+    returns-3
+    seat-requires
+    same-length-13
+    same-length-14
+    same-length-15
+    same-length-16
+    same-length-17
+    same-length-18
+    same-length-19
+    same-length-20
+    returns-4)

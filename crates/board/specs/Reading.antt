@@ -1,0 +1,80 @@
+-- What is read of a board: the marking that the lent slices hold, the offers and ends of the paper's board by rows, and the ends' paths.
+-- Assumes nothing.
+use Prim.Native.Nat.{ℕ, _≤_}
+use mathlib.Core.Path.{_≡_}
+use mathlib.Core.Bool.{false}
+use mathlib.Core.List.{List}
+use mathlib.Core.Option.{some}
+use lib.ListN.{length}
+use Rattle.paper.specs.Answers.{refused, good}
+use Rattle.paper.specs.Table.{nodes, edges}
+use Rattle.paper.specs.Marking.{Marking, marking}
+use Rattle.paper.specs.Offers.{Offer}
+use Rattle.paper.specs.Choices.{board, Board}
+use Rattle.flow.specs.declared.Offers.{Offers}
+use Rattle.flow.specs.Struct.{rowsOf, Full}
+use Rattle.ends.specs.declared.EndsAnswer.{EndsAnswer}
+use Rattle.ends.specs.declared.EndsAnswer.the-variants.{Good, Refused}
+use Rattle.ends.specs.Ends.{Listed}
+use Rattle.seating.specs.Seating.{Seated}
+use Rattle.holding.specs.Holding.{NodesHeld, EdgesHeld}
+
+-- the slices lent for a marking: where each stock's values stand in its bytes and how many they are, what runs, and the counts
+pub record Held : Type 0 where
+  pub from : List ℕ
+  pub kept : List ℕ
+  pub runs : List ℕ
+  pub tokens : List ℕ
+
+abbrev pub held : List ℕ → List ℕ → List ℕ → List ℕ → Held
+held f k r o = record { from = f; kept = k; runs = r; tokens = o }
+
+-- the slices lent for the ends in order, each a row of the offers, and for their paths in order, each in a block of 16 cells
+pub record Seats : Type 0 where
+  pub ends : List ℕ
+  pub order : List ℕ
+  pub lens : List ℕ
+  pub cells : List ℕ
+
+abbrev pub seats : List ℕ → List ℕ → List ℕ → List ℕ → Seats
+seats e o l c = record { ends = e; order = o; lens = l; cells = c }
+
+-- there is room for a marking, and for the ends
+pub record HeldRoom (t : List ℕ) (x : Held) : Type 0 where
+  pub froms : nodes t ≤ length (x .from)
+  pub kepts : nodes t ≤ length (x .kept)
+  pub runs-there : nodes t ≤ length (x .runs)
+  pub tokens-there : edges t ≤ length (x .tokens)
+
+pub record SeatsRoom (s : Seats) : Type 0 where
+  pub ends-room : 20 ≤ length (s .ends)
+  pub order-room : 160 ≤ length (s .order)
+  pub lens-room : 160 ≤ length (s .lens)
+  pub cells-room : 2560 ≤ length (s .cells)
+
+-- the slices hold the marking m, whose bytes are b
+pub record Holding (t b : List ℕ) (m : Marking) (x : Held) : Type 0 where
+  pub nodes-held : NodesHeld t m b (x .from) (x .kept) (x .runs) (nodes t)
+  pub edges-held : EdgesHeld t (m .tokens) (x .tokens) (edges t)
+
+-- the bytes are a live marking, and the slices hold it
+pub record LiveHeld (t b : List ℕ) (x : Held) : Type 0 where
+  pub current : Marking
+  pub is-read : marking t b ≡ some current
+  pub live : current .ended ≡ false
+  pub holding : Holding t b current x
+
+-- the board of n ends
+pub record Laid (t b g : List ℕ) (o : Offers) (x : Held) (s : Seats) (n : ℕ) : Type 0 where
+  pub on : Board
+  pub trees : List Offer
+  pub is-board : board t b g ≡ good on
+  pub full : Full o
+  pub seated : Seated t on (rowsOf o) trees (s .ends) n
+  pub listed : Listed trees (on .allEnds) (s .ends) (s .order) (s .lens) (s .cells) n
+  pub holding : Holding t b (on .current) x
+
+-- rows 5 to 8 of a good table, and the board
+abbrev pub BoardRead : List ℕ → List ℕ → List ℕ → Offers → Held → Seats → EndsAnswer → Type 0
+BoardRead t b g o x s (Good n) = Laid t b g o x s n
+BoardRead t b g o x s (Refused k p) = board t b g ≡ refused k p

@@ -1,0 +1,10 @@
+// Rows 5 to 8: a marking and guards read, the offers built and the ends put in order.
+// Functions that read a table's fields require that its bytes were read as a table.
+mod guards;
+mod reading;
+mod starts;
+
+pub use guards::guards_fine;
+pub use reading::Board;
+pub use reading::read;
+pub use starts::first_offers;

@@ -1,0 +1,171 @@
+// Rows 5 to 8: the board of a marking and guards, in lent slices but for the offers.
+use super::guards::guards_fine;
+use super::starts::first_offers;
+use ends::EndsAnswer;
+use flow::Built;
+use flow::Offers;
+use marking::MarkingAnswer;
+use table::Table;
+ghost use mathlib.Core.Path.{_≡_};
+ghost use mathlib.Core.Bool.{true};
+ghost use mathlib.Core.List.{List};
+ghost use Prim.Native.Nat.{ℕ, _≤_};
+ghost use lib.ListN.{length};
+ghost use Rattle.paper.specs.Answers.{good};
+ghost use Rattle.paper.specs.Table.{nodes, edges};
+ghost use Rattle.paper.specs.Marking.{Marking, Good};
+ghost use Rattle.paper.specs.Lists.{gather};
+ghost use Rattle.paper.specs.Offers.{guardsFine, goesOver, offers as offersOf, ends as endsOf};
+ghost use Rattle.ends.specs.Ends.{Arranged};
+ghost use Rattle.table.specs.Reading.{tableRead};
+ghost use Rattle.ends.specs.declared.EndsAnswer.the-variants.{Refused};
+ghost use Rattle.rows.specs.Rows.{Ranges};
+ghost use Rattle.flow.specs.Stages.{Result, Whole, onEdge};
+ghost use Rattle.flow.specs.Struct.{rowsOf, Full};
+ghost use Rattle.board.specs.Reading.{held, seats, HeldRoom, SeatsRoom, Holding, LiveHeld, BoardRead};
+
+// What sheet, pick and step are asked about: all offers, and the number of ends or the refusal.
+pub struct Board {
+    pub offers: Offers,
+    pub answer: EndsAnswer,
+}
+
+// No offers.
+fn none() -> Offers
+    ensures { λ r. ⌜ r .count ≡ 0 ⌝ }
+{
+    Offers {
+        last: [0; 64],
+        node: [0; 64],
+        has: [0; 64],
+        value: [0; 64],
+        paths: [0; 64],
+        parents: [0; 64],
+        makers: [0; 64],
+        foes: [0; 64],
+        before: [0; 512],
+        count: 0,
+    }
+}
+
+// No board: all is blank but the refusal.
+fn refused(number: u8, place: u8) -> Board
+    ensures { λ r. ⌜ r .answer ≡ Refused number place ⌝ }
+{
+    Board {
+        offers: none(),
+        answer: EndsAnswer::Refused(number, place),
+    }
+}
+
+// The offers of what is held.
+fn offered(
+    t: &[u8],
+    table: Table,
+    b: &[u8],
+    g: &[u8],
+    from: &[usize],
+    kept: &[u8],
+    tokens: &[u8],
+) -> Built
+    requires { ⌜ (tableRead (now t) ≡ good table) × (edges (now t) ≤ length (now g)) × (nodes (now t) ≤ length (now from)) × (nodes (now t) ≤ length (now kept)) × (edges (now t) ≤ length (now tokens)) ⌝ }
+    ensures { λ r. ⌜ (Ranges (r .from) (r .to) 64 × Full (r .offers)) × ((m : Marking) (runs : List ℕ) → Good (now (t .entry)) m → Holding (now (t .entry)) (now (b .entry)) m (held (now (from .entry)) (now (kept .entry)) runs (now (tokens .entry))) → Result (now (t .entry)) m (now (g .entry)) (rowsOf (r .offers)) (r .ok) (r .from) (r .to)) ⌝ }
+{
+    let mut codes = [0u8; Table::MOST_EDGES];
+    let mut values = [0u32; Table::MOST_EDGES];
+    first_offers(t, table, b, from, kept, tokens, &mut codes, &mut values);
+    flow::build(t, table, g, &codes, &values)
+}
+
+// The ends of these offers, of which each edge has those from `low` to `high`.
+fn arranged(
+    t: &[u8],
+    table: Table,
+    offers: Offers,
+    low: &[u8],
+    high: &[u8],
+    ends: &mut [u8],
+    order: &mut [u8],
+    lens: &mut [u8],
+    cells: &mut [u8],
+) -> EndsAnswer
+    requires { ⌜ (tableRead (now t) ≡ good table) × Full offers × ((64 ≤ length (now low)) × (64 ≤ length (now high)) × Ranges (now low) (now high) 64) × SeatsRoom (seats (now ends) (now order) (now lens) (now cells)) ⌝ }
+    ensures { λ r. ⌜ ((m : Marking) (g : List ℕ) (y : Whole (now (t .entry)) m g (rowsOf offers) (now (low .entry)) (now (high .entry))) → Arranged r (gather (onEdge (now (t .entry)) g m) (y .order)) (endsOf (now (t .entry)) (offersOf (now (t .entry)) (goesOver g) m)) (now (ends .exit)) (now (order .exit)) (now (lens .exit)) (now (cells .exit))) ⌝ }
+{
+    let last = offers.last;
+    let many = offers.paths;
+    let links = offers.before;
+    ends::arrange(
+        t,
+        table,
+        &last,
+        &many,
+        &links,
+        low,
+        high,
+        ends,
+        order,
+        lens,
+        cells,
+    )
+}
+
+// Row 8, and the ends in order.
+fn seat(
+    t: &[u8],
+    table: Table,
+    b: &[u8],
+    g: &[u8],
+    from: &[usize],
+    kept: &[u8],
+    tokens: &[u8],
+    ends: &mut [u8],
+    order: &mut [u8],
+    lens: &mut [u8],
+    cells: &mut [u8],
+) -> Board
+    requires { ⌜ ((tableRead (now t) ≡ good table) × (edges (now t) ≤ length (now g)) × (nodes (now t) ≤ length (now from)) × (nodes (now t) ≤ length (now kept)) × (edges (now t) ≤ length (now tokens))) × SeatsRoom (seats (now ends) (now order) (now lens) (now cells)) ⌝ }
+    ensures { λ r. ⌜ ((runs : List ℕ) → LiveHeld (now (t .entry)) (now (b .entry)) (held (now (from .entry)) (now (kept .entry)) runs (now (tokens .entry))) → guardsFine (now (t .entry)) (now (g .entry)) ≡ true → BoardRead (now (t .entry)) (now (b .entry)) (now (g .entry)) (r .offers) (held (now (from .entry)) (now (kept .entry)) runs (now (tokens .entry))) (seats (now (ends .exit)) (now (order .exit)) (now (lens .exit)) (now (cells .exit))) (r .answer)) ⌝ }
+{
+    let built = offered(t, table, b, g, from, kept, tokens);
+    if !built.ok {
+        return refused(8, 0);
+    }
+    let low = built.from;
+    let high = built.to;
+    let offers = built.offers;
+    let answer = arranged(t, table, offers, &low, &high, ends, order, lens, cells);
+    Board {
+        offers: offers,
+        answer: answer,
+    }
+}
+
+// The board of a marking and guards.
+pub fn read(
+    t: &[u8],
+    table: Table,
+    b: &[u8],
+    g: &[u8],
+    from: &mut [usize],
+    kept: &mut [u8],
+    runs: &mut [u8],
+    tokens: &mut [u8],
+    ends: &mut [u8],
+    order: &mut [u8],
+    lens: &mut [u8],
+    cells: &mut [u8],
+) -> Board
+    requires { ⌜ (tableRead (now t) ≡ good table) × HeldRoom (now t) (held (now from) (now kept) (now runs) (now tokens)) × SeatsRoom (seats (now ends) (now order) (now lens) (now cells)) ⌝ }
+    ensures { λ r. ⌜ BoardRead (now (t .entry)) (now (b .entry)) (now (g .entry)) (r .offers) (held (now (from .exit)) (now (kept .exit)) (now (runs .exit)) (now (tokens .exit))) (seats (now (ends .exit)) (now (order .exit)) (now (lens .exit)) (now (cells .exit))) (r .answer) ⌝ }
+{
+    match holding::take_up(t, table, b, from, kept, runs, tokens) {
+        MarkingAnswer::Live => {}
+        MarkingAnswer::Ended => return refused(6, 0),
+        MarkingAnswer::Refused(number, place) => return refused(number, place),
+    }
+    if !guards_fine(t, table, g) {
+        return refused(7, 0);
+    }
+    seat(t, table, b, g, from, kept, tokens, ends, order, lens, cells)
+}

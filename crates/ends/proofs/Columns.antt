@@ -1,0 +1,16 @@
+-- The lent columns are those of the struct that the offers were built in. Assumes nothing.
+use mathlib.Core.Path.{refl}
+use mathlib.Core.List.{List}
+use Prim.Native.Nat.{ℕ, _≤_}
+use native.Mathlib.Omega.{arith}
+use Rattle.rows.specs.Rows.{Ranges}
+use Rattle.flow.specs.Struct.{rowsOf}
+use Rattle.flow.specs.declared.Offers.{Offers}
+use Rattle.paths.specs.Blocks.{Seen}
+
+pub seen-struct : (o : Offers) → Seen (rowsOf o) (o .last) (o .paths) (o .before)
+seen-struct o = record { lasts = λ i. refl; numbers = λ i. refl; befores = λ i k. refl }
+
+-- parts of a list of c offers are parts of a longer one
+pub ranges-more : (a b : List ℕ) (c d : ℕ) → c ≤ d → Ranges a b c → Ranges a b d
+ranges-more a b c d l r j = (r j .0, omega (arith, r j .1))

@@ -1,0 +1,173 @@
+-- What the slots come to: the paper's ends in the paper's order, with their paths in order. Assumes nothing.
+use mathlib.Core.Path.{_≡_, refl, sym, ap, ap₂, _∙_, subst}
+use mathlib.Core.Bool.{Bool, true, false, not, cond}
+use mathlib.Core.List.{List, [], _∷_, _++_}
+use mathlib.Core.Option.{none}
+use Prim.Native.Nat.{ℕ, _+_, _*_, _-_, _/_, _%_, _≤_, _<_, compare}
+use native.Mathlib.Omega.{arith}
+use lib.ListN.{length, getD}
+use Rattle.paper.specs.Lists.{at, from, below, each, keep, gather}
+use Rattle.paper.specs.Limits.{limits}
+use Rattle.paper.specs.Table.{edges, kind, target, isControlNode}
+use Rattle.paper.specs.Marking.{Marking}
+use Rattle.paper.specs.Offers.{Offer, first, lastEdge, paths, goesOver, offers, isEnd, thenBy, lex, sort, sortedPaths, endOrder, ends}
+use Rattle.paper.proofs.Members.{In, here, later, in-none, in-gather, in-below, keep-none}
+use Rattle.paper.proofs.Sameness.{on-last}
+use Rattle.paper.proofs.Fuel.{path-short}
+use Rattle.rows.specs.Sets.{nth}
+use Rattle.rows.specs.Rows.{Rows, Row}
+use Rattle.flow.specs.Stages.{onEdge, Whole}
+use Rattle.rows.proofs.Segments.{each-append, keep-append, seg-nth, seg-len}
+use Rattle.paths.specs.Blocks.{Seen, run, pathIn, byPath, Tame, Back, pathsOf}
+use Rattle.paths.proofs.Insertion.{run-in, in-from}
+use Rattle.paths.proofs.Slots.{paths-under}
+use Rattle.ends.specs.Slots.{listOf, byEnd, Ordered, endsOn, endRows}
+use Rattle.ends.proofs.Sorts.{each-each, keep-all, entry-in, run-list, sort-each}
+
+-- the n rows that are ends are found, and in order
+pub record Done (t a b last many before found sorted slots lens cells : List ℕ) (n : ℕ) : Type 0 where
+  pub few : n ≤ 20
+  pub is-found : run (at found) 0 n ≡ endRows t a b (edges t)
+  pub ordered : Ordered last many before found sorted slots lens cells n
+
+module _ {t : List ℕ} {m : Marking} {g : List ℕ} {r : Rows} {a b : List ℕ} (y : Whole t m g r a b) where
+  abbrev on : ℕ → List Offer
+  on = onEdge t g m
+
+  abbrev trees : List Offer
+  trees = gather (onEdge t g m) (y .order)
+
+  -- ---- the rows that are ends
+  -- the rows of an edge are its offers
+  edge-rows : (e : ℕ) → e < edges t → each (nth trees) (from (at a e) (at b e - at a e)) ≡ on e
+  edge-rows e l =
+      let s = y .segs e l in
+      ap (run (nth trees) (at a e)) (let q : at b e - at a e ≡ length (on e) = omega (arith, s .to-b) in q) ∙ run-list (first 0 none) (nth trees) (at a e) (on e) (λ j k. seg-nth s j k)
+
+  -- all of them are ends, or none
+  edge-ends : (e : ℕ) → e < edges t → keep (isEnd t) (on e) ≡ each (nth trees) (endsOn t a b e)
+  unfolding isEnd
+  edge-ends e l = by (isControlNode (kind t (target t e))) refl
+    where
+      last-is : (o : Offer) → In o (on e) → isEnd t o ≡ not (isControlNode (kind t (target t e)))
+      last-is o k = ap (λ z. not (isControlNode (kind t (target t z)))) (on-last t (goesOver g) m (limits .longestPath) e k)
+
+      by : (c : Bool) → isControlNode (kind t (target t e)) ≡ c → keep (isEnd t) (on e) ≡ each (nth trees) (endsOn t a b e)
+      by true h = keep-none (isEnd t) (on e) (λ o k. last-is o k ∙ ap not h) ∙ ap (λ z. each (nth trees) (cond z [] (from (at a e) (at b e - at a e)))) (sym h)
+      by false h =
+          keep-all (isEnd t) (on e) (λ o k. last-is o k ∙ ap not h) ∙ sym (edge-rows e l)
+          ∙ ap (λ z. each (nth trees) (cond z [] (from (at a e) (at b e - at a e)))) (sym h)
+
+  all-ends : (es : List ℕ) → ((e : ℕ) → In e es → e < edges t) → keep (isEnd t) (gather on es) ≡ each (nth trees) (gather (endsOn t a b) es)
+  all-ends [] h = refl
+  all-ends (e ∷ es) h =
+      keep-append (isEnd t) (on e) (gather on es)
+      ∙ ap₂ (λ u v. u ++ v) (edge-ends e (h e (here refl))) (all-ends es (λ i k. h i (later k)))
+      ∙ sym (each-append (nth trees) (endsOn t a b e) (gather (endsOn t a b) es))
+
+  -- the rows found are the paper's ends, not yet in order
+  pub rows-are-ends : each (nth trees) (endRows t a b (edges t)) ≡ keep (isEnd t) (offers t (goesOver g) m)
+  unfolding endRows offers
+  rows-are-ends = sym (all-ends (below (edges t)) (λ e k. in-below (edges t) k))
+
+  -- each is a row of the list, with an offer of its edge
+  pub record Found (i : ℕ) : Type 0 where
+    pub edge : ℕ
+    pub inside : i < length trees
+    pub offer : In (nth trees i) (on edge)
+
+  pub row-found : (i : ℕ) → In i (endRows t a b (edges t)) → Found i
+  unfolding endRows
+  row-found i k = let q = in-gather (endsOn t a b) (below (edges t)) k in by (q .0) (in-below (edges t) (q .1)) (isControlNode (kind t (target t (q .0)))) (q .2)
+    where
+      by : (e : ℕ) → e < edges t → (c : Bool) → In i (cond c [] (from (at a e) (at b e - at a e))) → Found i
+      by e l true h = absurd (in-none h)
+      by e l false h =
+          let w = in-from (at a e) (at b e - at a e) h in
+          let s = y .segs e l in
+          record {
+            edge = e;
+            inside = omega (arith, seg-len s);
+            offer = subst (In (nth trees i)) (edge-rows e l) (run-in (nth trees) (at a e) (at b e - at a e) i (w .0) (w .1));
+          }
+
+  -- ---- the paths of a slot
+  module _ {last many before : List ℕ} (seen : Seen r last many before) where
+    held : (i : ℕ) → i < length trees → Row t trees (nth trees i) (r .entry i)
+    held i l = y .holds-ts .rows i l
+
+    tame : Tame r
+    tame = record {
+      few-rows = y .holds-ts .fits;
+      few-paths = λ j l. let k = y .holds-ts .count-is in let w = held j (omega arith) in omega (arith, w .paths-are, w .few);
+    }
+
+    last-is : (i : ℕ) → i < length trees → at last i ≡ lastEdge (nth trees i)
+    last-is i l = sym (seen .lasts i) ∙ held i l .last-is
+
+    number-is : (i : ℕ) → i < length trees → at many i ≡ length (paths (nth trees i))
+    number-is i l = sym (seen .numbers i) ∙ held i l .paths-are
+
+    -- a path of a row can be walked back
+    back : (i : ℕ) → Found i → (k : ℕ) → k < length (paths (nth trees i)) → Back last before i k r many (getD (paths (nth trees i)) k [])
+    back i f k l = record {
+      seen = seen;
+      tame = tame;
+      row = let q = y .holds-ts .count-is in let w = f .inside in omega arith;
+      route = y .holds-ts .routes i (f .inside) k l;
+      fits = path-short t (goesOver g) m (limits .longestPath) (f .edge) (f .offer) (entry-in [] (paths (nth trees i)) k l);
+    }
+
+    module _ {found sorted slots lens cells : List ℕ} {n : ℕ} (d : Done t a b last many before found sorted slots lens cells n) where
+      -- the offer in a slot
+      abbrev offer : ℕ → Offer
+      offer s = nth trees (at found s)
+
+      pub slot-found : (s : ℕ) → s < n → Found (at found s)
+      slot-found s l = row-found (at found s) (subst (In (at found s)) (d .is-found) (run-in (at found) 0 n s (omega arith) (omega arith)))
+
+      pub paths-number : (s : ℕ) → s < n → pathsOf many found s ≡ length (paths (offer s))
+      paths-number s l =
+          let f = slot-found s l in
+          let e = number-is (at found s) (f .inside) in
+          let w = held (at found s) (f .inside) .few in
+          sym (paths-under many found s (omega arith)) ∙ e
+
+      -- block 8 * s + k has path k of slot s
+      block-is : (s : ℕ) → s < n → (k : ℕ) → k < length (paths (offer s)) → pathIn lens cells (8 * s + k) ≡ getD (paths (offer s)) k []
+      block-is s l k lk =
+          let f = slot-found s l in
+          let e = paths-number s l in
+          let few = held (at found s) (f .inside) .few in
+          let q : s ≡ (8 * s + k) / 8 = omega arith in
+          let p : k ≡ (8 * s + k) % 8 = omega arith in
+          let h : k < pathsOf many found s = omega arith in
+          d .ordered .traced (8 * s + k) (omega arith) (subst (λ z. z < pathsOf many found ((8 * s + k) / 8)) p (subst (λ z. k < pathsOf many found z) q h)) .is r many (getD (paths (offer s)) k [])
+          (subst (λ z. Back last before (at found ((8 * s + k) / 8)) z r many (getD (paths (offer s)) k [])) p
+          (subst (λ z. Back last before (at found z) k r many (getD (paths (offer s)) k [])) q (back (at found s) f k lk)))
+
+      pub list-is : (s : ℕ) → s < n → listOf many found sorted lens cells s ≡ sortedPaths (offer s)
+      unfolding listOf sortedPaths byPath
+      list-is s l =
+          let w = pathsOf many found s in
+          let z : 8 * s + w - 8 * s ≡ w = omega arith in
+          sym (each-each (pathIn lens cells) (at sorted) (from (8 * s) w))
+          ∙ ap (each (pathIn lens cells)) (subst (λ v. run (at sorted) (8 * s) v ≡ sort (byPath lens cells) (from (8 * s) v)) z (d .ordered .paths-sorted s l))
+          ∙ sort-each (pathIn lens cells) (byPath lens cells) (lex compare) (from (8 * s) w) (λ p q u v. refl)
+          ∙ ap (sort (lex compare)) (ap (run (pathIn lens cells) (8 * s)) (paths-number s l) ∙ run-list [] (pathIn lens cells) (8 * s) (paths (offer s)) (block-is s l))
+
+      order-is : (s u : ℕ) → s < n → u < n → byEnd last many found sorted lens cells s u ≡ endOrder t (offer s) (offer u)
+      unfolding byEnd endOrder
+      order-is s u ls lu =
+          ap₂ thenBy (ap₂ compare (last-is (at found s) (slot-found s ls .inside)) (last-is (at found u) (slot-found u lu .inside)))
+          (ap₂ (lex (lex compare)) (list-is s ls) (list-is u lu))
+
+      -- the slots in order are the ends
+      pub slots-are : run (λ k. offer (at slots k)) 0 n ≡ ends t (offers t (goesOver g) m)
+      unfolding ends
+      slots-are =
+          let z : n - 0 ≡ n = omega arith in
+          sym (each-each offer (at slots) (from 0 n))
+          ∙ ap (each offer) (subst (λ v. run (at slots) 0 v ≡ sort (byEnd last many found sorted lens cells) (from 0 v)) z (d .ordered .ends-sorted))
+          ∙ sort-each offer (byEnd last many found sorted lens cells) (endOrder t) (from 0 n) (λ s u ks ku. order-is s u (in-below n ks) (in-below n ku))
+          ∙ ap (sort (endOrder t)) (sym (each-each (nth trees) (at found) (from 0 n)) ∙ ap (each (nth trees)) (d .is-found) ∙ rows-are-ends)

@@ -1,0 +1,59 @@
+-- Lists said as runs, entry by entry, and a sort carried over to what its entries stand for. Assumes nothing.
+use mathlib.Core.Path.{_≡_, refl, sym, ap, ap₂, _∙_}
+use mathlib.Core.Bool.{Bool, true}
+use mathlib.Core.List.{List, [], _∷_}
+use Prim.Native.Nat.{ℕ, zero, suc, _+_, _≤_, _<_, Ordering, Ordering·lt, Ordering·eq, Ordering·gt}
+use native.Mathlib.Omega.{arith}
+use lib.ListN.{length, getD, take, drop}
+use lib.Seq.{drop-cons}
+use Rattle.paper.specs.Lists.{at, each, keep}
+use Rattle.paper.specs.Offers.{insert, sort}
+use Rattle.paper.proofs.Members.{In, here, later}
+use Rattle.paper.proofs.Orders.{in-sort}
+use Rattle.paths.specs.Blocks.{run}
+
+-- ---- lists
+pub each-each : {A B C : Type 0} (f : B → C) (g : A → B) (xs : List A) → each f (each g xs) ≡ each (λ x. f (g x)) xs
+each-each f g [] = refl
+each-each f g (x ∷ xs) = ap (λ z. f (g x) ∷ z) (each-each f g xs)
+
+pub keep-all : {A : Type 0} (p : A → Bool) (xs : List A) → ((x : A) → In x xs → p x ≡ true) → keep p xs ≡ xs
+keep-all p [] h = refl
+keep-all p (x ∷ xs) h = rw (h x (here refl)) (ap (λ z. x ∷ z) (keep-all p xs (λ y m. h y (later m))))
+
+pub entry-in : {A : Type 0} (d : A) (xs : List A) (k : ℕ) → k < length xs → In (getD xs k d) xs
+entry-in d [] k l = absurd (omega arith)
+entry-in d (x ∷ xs) zero l = here refl
+entry-in d (x ∷ xs) (suc k) l = later (entry-in d xs k (omega arith))
+
+-- a run of the entries of a list
+pub run-list : {A : Type 0} (d : A) (f : ℕ → A) (lo : ℕ) (xs : List A) → ((j : ℕ) → j < length xs → f (lo + j) ≡ getD xs j d) → run f lo (length xs) ≡ xs
+run-list d f lo [] h = refl
+run-list d f lo (x ∷ xs) h =
+    ap₂ (λ z zs. z ∷ zs) (ap f (let e : lo ≡ lo + 0 = omega arith in e) ∙ h 0 (omega arith))
+    (run-list d f (suc lo) xs (λ j l. ap f (let e : suc lo + j ≡ lo + suc j = omega arith in e) ∙ h (suc j) (omega arith)))
+
+pub run-entry : {A : Type 0} (d : A) (f : ℕ → A) (lo n k : ℕ) → k < n → getD (run f lo n) k d ≡ f (lo + k)
+run-entry d f lo zero k l = absurd (omega arith)
+run-entry d f lo (suc n) zero l = ap f (let e : lo ≡ lo + 0 = omega arith in e)
+run-entry d f lo (suc n) (suc k) l = run-entry d f (suc lo) n k (omega arith) ∙ ap f (let e : suc lo + k ≡ lo + suc k = omega arith in e)
+
+pub run-part : (l : List ℕ) (lo n : ℕ) → lo + n ≤ length l → take n (drop lo l) ≡ run (at l) lo n
+run-part l lo zero h = refl
+run-part l lo (suc n) h = ap (take (suc n)) (drop-cons l lo 0 (omega arith)) ∙ ap (λ z. at l lo ∷ z) (run-part l (suc lo) n (omega arith))
+
+-- ---- a sort carried over
+module _ {A B : Type 0} (f : A → B) (c : A → A → Ordering) (d : B → B → Ordering) where
+  insert-each : (x : A) (ys : List A) → ((y : A) → In y ys → c x y ≡ d (f x) (f y)) → each f (insert c x ys) ≡ insert d (f x) (each f ys)
+  insert-each x [] h = refl
+  insert-each x (y ∷ ys) h = by (c x y) refl (insert-each x ys (λ z m. h z (later m)))
+    where
+      by : (o : Ordering) → c x y ≡ o → each f (insert c x ys) ≡ insert d (f x) (each f ys) → each f (insert c x (y ∷ ys)) ≡ insert d (f x) (f y ∷ each f ys)
+      by Ordering·lt q ih = rw (q, sym (h y (here refl)) ∙ q)
+      by Ordering·eq q ih = rw (q, sym (h y (here refl)) ∙ q)
+      by Ordering·gt q ih = rw (q, sym (h y (here refl)) ∙ q) (ap (λ z. f y ∷ z) ih)
+
+  pub sort-each : (xs : List A) → ((x y : A) → In x xs → In y xs → c x y ≡ d (f x) (f y)) → each f (sort c xs) ≡ sort d (each f xs)
+  sort-each [] h = refl
+  sort-each (x ∷ xs) h =
+      insert-each x (sort c xs) (λ y m. h x y (here refl) (later (in-sort c xs m))) ∙ ap (insert d (f x)) (sort-each xs (λ y z a b. h y z (later a) (later b)))

@@ -1,0 +1,94 @@
+-- `write_end` stores what stands before the paths, and the paths behind it. Assumes nothing.
+use Prim.Native.Nat.{ℕ, _+_, _*_, _≤_, _<_}
+use mathlib.Core.Path.{_≡_, sym, ap, subst, _∙_}
+use native.Mathlib.Omega.{arith}
+use lib.ListN.{length}
+use Rattle.paper.specs.Lists.{at}
+use Rattle.wire.specs.Totals.{total}
+use Rattle.listing.specs.Listing.{pathTakes, endTakes}
+use Rattle.listing.proofs.Laws.{end-is}
+use borrow.Author.Needs.{needs}
+use Rattle.listing.proofs.write_end.Statement.{statement}
+use Rattle.listing.proofs.write_end.Tie as tie
+
+shared-slice-read-wide : tie.Need-shared-slice-read-wide
+shared-slice-read-wide c = let p = c .before .before .before .before .before .before .before .before .before .before .pre in omega (arith, p .0 .measured .ends-there)
+
+wide-requires : tie.Need-wide-requires
+wide-requires c κs = search needs
+
+shared-slice-read-write-front : tie.Need-shared-slice-read-write-front
+shared-slice-read-write-front c = let p = c .before .before .before .before .before .before .before .before .before .before .before .before .pre in let m = p .0 .measured in omega (arith, m .inside (c .before .before .before .before .before .before .before .before .before .before .before .before .args .k) (p .1), p .0 .lasts, c .before .wide .ensures .0)
+
+shared-slice-read-write-front-2 : tie.Need-shared-slice-read-write-front-2
+shared-slice-read-write-front-2 c = let p = c .before .before .before .before .before .before .before .before .before .before .before .before .before .pre in let m = p .0 .measured in omega (arith, m .inside (c .before .before .before .before .before .before .before .before .before .before .before .before .before .args .k) (p .1), p .0 .flags, c .before .before .wide .ensures .0)
+
+mul-write-front : tie.Need-mul-write-front
+mul-write-front c = search needs
+
+shared-slice-read-write-front-3 : tie.Need-shared-slice-read-write-front-3
+shared-slice-read-write-front-3 c = let p = c .before .before .before .before .before .before .before .before .before .before .before .before .before .before .pre in let m = p .0 .measured in omega (arith, m .inside (c .before .before .before .before .before .before .before .before .before .before .before .before .before .before .args .k) (p .1), p .0 .values, c .before .before .before .wide .ensures .0)
+
+shared-slice-read-write-front-4 : tie.Need-shared-slice-read-write-front-4
+shared-slice-read-write-front-4 c = let p = c .before .before .before .before .before .before .before .before .before .before .before .before .before .before .before .pre in let m = p .0 .measured in omega (arith, m .inside (c .before .before .before .before .before .before .before .before .before .before .before .before .before .before .before .args .k) (p .1), p .0 .measured .numbers, c .before .before .before .before .wide .ensures .0)
+
+write-front-requires : tie.Need-write-front-requires
+unfolding endTakes
+write-front-requires c κs = let p = c .before .before .before .before .before .before .before .before .before .before .before .before .before .before .before .before .pre in omega (arith, p .2)
+
+shared-slice-read-wide-2 : tie.Need-shared-slice-read-wide-2
+shared-slice-read-wide-2 c = let p = c .before .before .before .before .before .before .before .before .before .before .before .before .before .before .before .before .before .before .before .before .pre in let m = p .0 .measured in omega (arith, m .inside (c .before .before .before .before .before .before .before .before .before .before .before .before .before .before .before .before .before .before .before .before .args .k) (p .1), p .0 .measured .numbers, c .before .before .before .before .before .before .before .before .before .wide .ensures .0)
+
+wide-requires-2 : tie.Need-wide-requires-2
+wide-requires-2 c κs = search needs
+
+add-write-paths : tie.Need-add-write-paths
+add-write-paths c = search needs
+
+write-paths-requires : tie.Need-write-paths-requires
+unfolding endTakes
+write-paths-requires c κs = let p = c .before .before .before .before .before .before .before .before .before .before .before .before .before .before .before .before .before .before .before .before .before .before .pre in
+    let a = c .before .before .before .before .before .before .before .before .before .before .before .before .before .before .before .before .before .before .before .before .before .before .args in
+    let m = p .0 .measured in
+    let e : c .before .wide2 .result ≡ at (a .many .now) (at (a .rows .now) (a .k)) = c .before .wide2 .ensures .0 ∙ ap (at (a .many .now)) (c .before .before .before .before .before .before .before .before .before .before .before .wide .ensures .0) in
+    let few = m .paths-few (a .k) (p .1) in
+    let z = ap (λ (x : ℕ). total (pathTakes (a .order .now) (a .lens .now) (a .k)) x) e in (
+      (omega (arith, m .few, m .orders, e), omega (arith, e)),
+      λ j l. m .blocks (a .k) j (p .1) (omega (arith, e)),
+      λ j l. m .short (a .k) j (p .1) (omega (arith, e)),
+      m .lengths,
+      p .0 .cells-there,
+      omega (arith, p .2, z, c .before .before .before .before .before .write-front .kept),
+    )
+
+same-length : tie.Need-same-length
+same-length c = search needs
+
+returns : tie.Need-returns
+unfolding endTakes
+returns c = let p = c .before .before .before .before .before .before .before .before .before .before .before .before .before .before .before .before .before .before .before .before .before .before .before .before .before .pre in
+    let a = c .before .before .before .before .before .before .before .before .before .before .before .before .before .before .before .before .before .before .before .before .before .before .before .before .before .args in
+    let i : c .before .before .before .before .before .before .before .before .before .before .before .before .before .before .wide .result ≡ at (a .rows .now) (a .k) = c .before .before .before .before .before .before .before .before .before .before .before .before .before .before .wide .ensures .0 in
+    let e : c .before .before .before .before .wide2 .result ≡ at (a .many .now) (at (a .rows .now) (a .k)) = c .before .before .before .before .wide2 .ensures .0 ∙ ap (at (a .many .now)) i in
+    let w = c .before .before .write-paths .ensures in
+    let z = ap (λ (x : ℕ). total (pathTakes (a .order .now) (a .lens .now) (a .k)) x) e in
+    (omega (arith, w .0, z), w .1 ∙ rw (c .before .before .before .before .before .before .before .before .write-front .ensures, e, i) (end-is (p .0) (a .out .now) (a .to) (a .k)))
+
+pub write-end-spec : {M : Type 1} → statement M
+write-end-spec =
+    tie.close
+    (tie.spec
+    shared-slice-read-wide
+    wide-requires
+    shared-slice-read-write-front
+    shared-slice-read-write-front-2
+    mul-write-front
+    shared-slice-read-write-front-3
+    shared-slice-read-write-front-4
+    write-front-requires
+    shared-slice-read-wide-2
+    wide-requires-2
+    add-write-paths
+    write-paths-requires
+    same-length
+    returns)

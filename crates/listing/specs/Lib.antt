@@ -1,0 +1,2 @@
+-- The sheet's bytes, from lent columns.
+pub mod Listing

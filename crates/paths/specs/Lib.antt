@@ -1,0 +1,2 @@
+-- What is promised of paths in blocks.
+pub mod Blocks
