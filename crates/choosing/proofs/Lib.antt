@@ -1,0 +1,2 @@
+-- Laws of choices as bytes and as masks.
+pub mod Laws

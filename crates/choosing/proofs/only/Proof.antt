@@ -1,0 +1,17 @@
+-- `only`: a shifted one. Assumes nothing.
+use Rattle.paper.proofs.Bits.{one-shl}
+use borrow.Author.Needs.{needs}
+use Rattle.choosing.proofs.only.Statement.{statement}
+use Rattle.choosing.proofs.only.Tie as tie
+
+cast-result : tie.Need-cast-result
+cast-result c = search needs
+
+shl-result : tie.Need-shl-result
+shl-result c = search needs
+
+returns : tie.Need-returns
+returns c = one-shl (c .args .k) 32 (search needs)
+
+pub only-spec : {M : Type 1} → statement M
+only-spec = tie.close (tie.spec cast-result shl-result returns)

@@ -1,0 +1,2 @@
+-- Choices as bytes and as masks.
+pub mod Choice

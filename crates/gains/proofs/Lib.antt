@@ -1,0 +1,2 @@
+-- Laws of the values that come.
+pub mod Gaining

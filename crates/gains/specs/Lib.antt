@@ -1,0 +1,2 @@
+-- What a step brings.
+pub mod Gains

@@ -1,0 +1,3 @@
+-- Laws of judging.
+pub mod Masks
+pub mod Meaning

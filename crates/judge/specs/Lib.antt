@@ -1,0 +1,2 @@
+-- What judging a choice promises.
+pub mod Judging

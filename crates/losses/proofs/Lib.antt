@@ -1,0 +1,3 @@
+-- Laws of slices filled, and of what is spent.
+pub mod Fillings
+pub mod Spends

@@ -1,0 +1,3 @@
+-- Laws of the step.
+pub mod Moving
+pub mod Calling

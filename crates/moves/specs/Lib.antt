@@ -1,0 +1,2 @@
+-- The step, said of lent slices.
+pub mod Moves

@@ -1,0 +1,2 @@
+-- What the net of the rules promises.
+pub mod Rules
