@@ -25,9 +25,9 @@ use Rattle.marking.specs.declared.reading.MarkingAnswer.{MarkingAnswer}
 use Rattle.marking.specs.declared.reading.MarkingAnswer.the-variants.{Live, Ended, Refused}
 use Rattle.marking.specs.Reading.{MarkingRead, NodesNoted, EdgesNoted, NodesPlaced}
 use Rattle.marking.specs.Values.{listedNodes}
-use Rattle.marking.specs.Holding.{NodesHeld, EdgesHeld, Fires}
-use Rattle.marking.specs.Giving.{giveOf}
-use Rattle.marking.proofs.HoldingLaws.{one-if}
+use Rattle.holding.specs.Holding.{NodesHeld, EdgesHeld, Fires}
+use Rattle.holding.specs.Giving.{giveOf}
+use Rattle.holding.proofs.HoldingLaws.{one-if}
 use Rattle.keshmirun.specs.Delivered.{Deliverable, delivered}
 use Rattle.keshmirun.specs.Running.{runsIn, LiveRead}
 

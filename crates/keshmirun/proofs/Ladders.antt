@@ -17,12 +17,11 @@ use Rattle.paper.proofs.Bools.{and-true}
 use Rattle.paper.proofs.Lists.{keep-same}
 use Rattle.paper.proofs.Tables.{GoodTable}
 use Rattle.table.specs.declared.Table.{Table}
-use Rattle.table.specs.Reading.{tableRead}
-use Rattle.table.specs.Shape.{Blank}
+use Rattle.table.specs.Reading.{tableRead, Blank}
 use Rattle.table.proofs.Reading.{read-refused, read-fine, read-good}
 use Rattle.marking.specs.Values.{isListed, listedNodes}
-use Rattle.marking.specs.Holding.{Fires}
-use Rattle.marking.specs.Giving.{giveOf}
+use Rattle.holding.specs.Holding.{Fires}
+use Rattle.holding.specs.Giving.{giveOf}
 use Rattle.keshmirun.specs.Delivered.{Deliverable, delivered}
 
 -- ---- check

@@ -1,6 +1,6 @@
 // Reads calls as bytes from standard input and writes each answer as a line, so that outside vectors can be held to the library.
 //
-// A call is its operation (0 check, 1 start, 5 finish), the room to lend (2 bytes), a node or action (1 byte), then four slices, each a 2-byte length and its bytes: table, marking,
+// A call is its operation (0 check, 1 start, 2 sheet, 3 pick, 4 step, 5 finish), the room to lend (2 bytes), a node or action (1 byte), then four slices, each a 2-byte length and its bytes: table, marking,
 // guards or values, choice. What an operation doesn't take is empty. A line is the refusal, the place and the reply in hex, `-` where it is empty.
 ghost use Prim.Native.Nat.{_≤_, _<_};
 ghost use lib.ListN.{length};
@@ -11,6 +11,12 @@ use libc::STDOUT_FILENO;
 const MOST_CALLS: usize = 1000000;
 
 const START: u8 = 1;
+
+const SHEET: u8 = 2;
+
+const PICK: u8 = 3;
+
+const STEP: u8 = 4;
 
 const FINISH: u8 = 5;
 
@@ -68,10 +74,30 @@ fn slice(space: &mut [u8]) -> usize
     io::read_full(STDIN_FILENO, &mut space[..n])
 }
 
-// Answers a call: start and finish by their numbers, otherwise check.
-fn answer(operation: u8, node: u8, table: &[u8], marking: &[u8], values: &[u8], out: &mut [u8]) {
+// Answers a call by its operation's number, check where it has no other.
+fn answer(
+    operation: u8,
+    node: u8,
+    table: &[u8],
+    marking: &[u8],
+    values: &[u8],
+    choice: &[u8],
+    out: &mut [u8],
+) {
     if operation == START {
         line(keshmirun::start(table, values, out), out);
+        return;
+    }
+    if operation == SHEET {
+        line(keshmirun::sheet(table, marking, values, out), out);
+        return;
+    }
+    if operation == PICK {
+        line(keshmirun::pick(table, marking, values, node, out), out);
+        return;
+    }
+    if operation == STEP {
+        line(keshmirun::step(table, marking, values, choice, out), out);
         return;
     }
     if operation == FINISH {
@@ -82,7 +108,13 @@ fn answer(operation: u8, node: u8, table: &[u8], marking: &[u8], values: &[u8], 
 }
 
 // Reads a call and answers it; false where there is none left.
-fn call(table: &mut [u8], marking: &mut [u8], values: &mut [u8], out: &mut [u8]) -> bool {
+fn call(
+    table: &mut [u8],
+    marking: &mut [u8],
+    values: &mut [u8],
+    choice: &mut [u8],
+    out: &mut [u8],
+) -> bool {
     let mut head = [0u8; 4];
     if io::read_full(STDIN_FILENO, &mut head) < 4 {
         return false;
@@ -91,7 +123,7 @@ fn call(table: &mut [u8], marking: &mut [u8], values: &mut [u8], out: &mut [u8])
     let n = slice(table);
     let m = slice(marking);
     let v = slice(values);
-    slice(out);
+    let k = slice(choice);
     if out.len() < room {
         return false;
     }
@@ -101,16 +133,17 @@ fn call(table: &mut [u8], marking: &mut [u8], values: &mut [u8], out: &mut [u8])
         &table[..n],
         &marking[..m],
         &values[..v],
+        &choice[..k],
         &mut out[..room],
     );
     true
 }
 
 // Answers call after call.
-fn run(table: &mut [u8], marking: &mut [u8], values: &mut [u8], out: &mut [u8]) {
+fn run(table: &mut [u8], marking: &mut [u8], values: &mut [u8], choice: &mut [u8], out: &mut [u8]) {
     let mut left = MOST_CALLS;
     while 0 < left {
-        if !call(table, marking, values, out) {
+        if !call(table, marking, values, choice, out) {
             return;
         }
         left -= 1;
@@ -121,6 +154,7 @@ fn main() {
     let mut table = io::large_buffer();
     let mut marking = io::large_buffer();
     let mut values = io::large_buffer();
+    let mut choice = io::large_buffer();
     let mut out = io::large_buffer();
-    run(&mut table, &mut marking, &mut values, &mut out);
+    run(&mut table, &mut marking, &mut values, &mut choice, &mut out);
 }

@@ -2,7 +2,7 @@
 use mathlib.Core.Path.{sym, _∙_}
 use Rattle.paper.specs.Marking.{encode}
 use Rattle.paper.proofs.Calls.{reply-short, reply-full}
-use Rattle.marking.proofs.WritingLaws.{size-is}
+use Rattle.writing.proofs.WritingLaws.{size-is}
 use borrow.Author.Needs.{needs}
 use Rattle.keshmirun.proofs.reply.Statement.{statement}
 use Rattle.keshmirun.proofs.reply.Tie as tie

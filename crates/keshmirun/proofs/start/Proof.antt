@@ -2,8 +2,7 @@
 use mathlib.Core.Path.{refl, sym, ap, _∙_}
 use native.Mathlib.Omega.{arith}
 use Rattle.table.specs.Reading.{said}
-use Rattle.table.proofs.Laws.{blank}
-use Rattle.table.proofs.Reading.{read-spans, most-nodes, most-edges}
+use Rattle.table.proofs.Reading.{read-spans, most-nodes, most-edges, blank}
 use Rattle.keshmirun.proofs.Ladders.{start-refused, start-ready, start-leaves}
 use borrow.Author.Needs.{needs}
 use Rattle.keshmirun.proofs.start.Statement.{statement}

@@ -1,7 +1,7 @@
 -- `call` hands on just the bytes that were read. Assumes nothing.
 use Prim.Native.Nat.{_+_, _*_}
 use native.Mathlib.Omega.{arith}
-use lib.ListN.{length-take}
+use lib.ListN.{length, length-take}
 use borrow.Author.Needs.{needs}
 use Rattle.vectors.proofs.call.Statement.{statement}
 use Rattle.vectors.proofs.call.Tie as tie
@@ -84,11 +84,17 @@ slice-reshare-prefix-answer-3 c = search needs
 slice-aggregate-answer-3 : tie.Need-slice-aggregate-answer-3
 slice-aggregate-answer-3 c = omega (arith, length-take (c .before .before .before .before .before .before .before .before .before .before .slice3 .result) (c .before .before .before .before .before .before .before .before .before .before .slice3 .last .0), c .before .before .before .before .before .before .before .before .before .before .slice3 .ensures)
 
+slice-reshare-prefix-answer-4 : tie.Need-slice-reshare-prefix-answer-4
+slice-reshare-prefix-answer-4 c = search needs
+
+slice-aggregate-answer-4 : tie.Need-slice-aggregate-answer-4
+slice-aggregate-answer-4 c = omega (arith, length-take (c .before .before .before .before .before .before .before .slice4 .result) (c .before .before .before .before .before .before .before .slice4 .last .0), c .before .before .before .before .before .before .before .slice4 .ensures)
+
 slice-relend-prefix-answer : tie.Need-slice-relend-prefix-answer
 slice-relend-prefix-answer c = search needs
 
-slice-aggregate-answer-4 : tie.Need-slice-aggregate-answer-4
-slice-aggregate-answer-4 c = omega (arith, length-take (c .before .before .before .before .before .before .before .before .before .before .before .before .before .before .before .before .before .before .before .before .before .before .wide .result * 256 + c .before .before .before .before .before .before .before .before .before .before .before .before .before .before .before .before .before .before .before .before .before .wide2 .result) (c .before .before .before .before .before .before .before .slice4 .last .0))
+slice-aggregate-answer-5 : tie.Need-slice-aggregate-answer-5
+slice-aggregate-answer-5 c = omega (arith, length-take (c .before .before .before .before .before .before .before .before .before .before .before .before .before .before .before .before .before .before .before .before .before .before .before .wide .result * 256 + c .before .before .before .before .before .before .before .before .before .before .before .before .before .before .before .before .before .before .before .before .before .before .wide2 .result) (c .before .before .before .before .before .before .before .before .before .before .before .before .before .before .before .before .before .before .before .before .before .before .before .before .before .before .before .before .before .before .before .before .before .args .out .now))
 
 answer-requires : tie.Need-answer-requires
 answer-requires c κs = search needs
@@ -104,6 +110,9 @@ same-length-7 c = search needs
 
 same-length-8 : tie.Need-same-length-8
 same-length-8 c = search needs
+
+same-length-9 : tie.Need-same-length-9
+same-length-9 c = search needs
 
 returns-3 : tie.Need-returns-3
 returns-3 c = search needs
@@ -138,11 +147,14 @@ call-spec =
     slice-aggregate-answer-2
     slice-reshare-prefix-answer-3
     slice-aggregate-answer-3
-    slice-relend-prefix-answer
+    slice-reshare-prefix-answer-4
     slice-aggregate-answer-4
+    slice-relend-prefix-answer
+    slice-aggregate-answer-5
     answer-requires
     same-length-5
     same-length-6
     same-length-7
     same-length-8
+    same-length-9
     returns-3)

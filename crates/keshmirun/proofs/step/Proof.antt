@@ -1,0 +1,47 @@
+-- `step`: the table's refusals, then the board. Assumes nothing.
+use mathlib.Core.Path.{refl, sym, ap, _∙_}
+use Rattle.table.specs.Reading.{said}
+use Rattle.keshmirun.proofs.Sheets.{board-refused}
+use Rattle.keshmirun.proofs.Steps.{step-refused}
+use borrow.Author.Needs.{needs}
+use Rattle.keshmirun.proofs.step.Statement.{statement}
+use Rattle.keshmirun.proofs.step.Tie as tie
+
+read-requires : tie.Need-read-requires
+read-requires c κs = search needs
+
+enum-known-x : tie.Need-enum-known-x
+enum-known-x c = search needs
+
+enum-known-number : tie.Need-enum-known-number
+enum-known-number c = search needs
+
+pack-requires : tie.Need-pack-requires
+pack-requires c κs = search needs
+
+returns : tie.Need-returns
+returns c = let a = c .before .before .before .before .before .before .before .before .before .before .args in
+    let e = sym (c .before .before .before .before .read .ensures) ∙ ap said (c .before .before .number .given .1) in
+    record { answer = _; allowed = sym (step-refused (a .table .now) (a .marking .now) (a .guards .now) (a .choice .now) _ _ (board-refused (a .table .now) (a .marking .now) (a .guards .now) _ _ e)); reply = (c .pack .ensures, refl) }
+
+enter-requires : tie.Need-enter-requires
+enter-requires c κs = sym (c .before .before .before .before .read .ensures) ∙ ap said (c .before .before .x .given .1)
+
+same-length : tie.Need-same-length
+same-length c = search needs
+
+returns-2 : tie.Need-returns-2
+returns-2 c = c .before .before .enter .ensures
+
+pub step-spec : {M : Type 1} → statement M
+step-spec =
+    tie.close
+    (tie.spec
+    read-requires
+    enum-known-x
+    enum-known-number
+    pack-requires
+    returns
+    enter-requires
+    same-length
+    returns-2)

@@ -1,0 +1,15 @@
+-- What the search for a choice takes for granted: the ends are rows of the offers, and their last edges are the table's. Assumes nothing.
+use Prim.Native.Nat.{ℕ, _≤_, _<_}
+use mathlib.Core.List.{List}
+use Rattle.paper.specs.Lists.{at}
+use Rattle.paper.specs.Table.{edges}
+use Rattle.flow.specs.declared.Offers.{Offers}
+use Rattle.flow.specs.Struct.{Full}
+use Rattle.seating.specs.Seating.{Rowed}
+
+pub record Pickable (t : List ℕ) (o : Offers) (ends : List ℕ) (n : ℕ) : Type 0 where
+  pub full : Full o
+  pub few-rows : o .count ≤ 64
+  pub few : n ≤ 20
+  pub rowed : Rowed ends n 64
+  pub edges-inside : (k : ℕ) → k < n → at (o .last) (at ends k) < edges t
