@@ -8,5 +8,6 @@ fn main() {
     });
     println!("cargo:rerun-if-changed={folder}/libkeshmirun.a");
     println!("cargo:rustc-link-search=native={folder}");
+    println!("cargo:rustc-env=KESHMIRUN_FOLDER={folder}"); // for the test that links a C program
     println!("cargo:rustc-link-lib=static=keshmirun");
 }

@@ -14,6 +14,42 @@ mod archive {
 
         pub fn start(table: *const u8, table_len: usize, values: *const u8, values_len: usize, out: *mut u8, out_len: usize) -> u64;
 
+        pub fn sheet(
+            table: *const u8,
+            table_len: usize,
+            marking: *const u8,
+            marking_len: usize,
+            guards: *const u8,
+            guards_len: usize,
+            out: *mut u8,
+            out_len: usize,
+        ) -> u64;
+
+        pub fn pick(
+            table: *const u8,
+            table_len: usize,
+            marking: *const u8,
+            marking_len: usize,
+            guards: *const u8,
+            guards_len: usize,
+            node: u8,
+            out: *mut u8,
+            out_len: usize,
+        ) -> u64;
+
+        pub fn step(
+            table: *const u8,
+            table_len: usize,
+            marking: *const u8,
+            marking_len: usize,
+            guards: *const u8,
+            guards_len: usize,
+            choice: *const u8,
+            choice_len: usize,
+            out: *mut u8,
+            out_len: usize,
+        ) -> u64;
+
         pub fn finish(
             table: *const u8,
             table_len: usize,
@@ -77,8 +113,131 @@ pub fn check(table: &[u8]) -> Result<(), Refusal> {
 /// ```
 pub fn start(table: &[u8], values: &[u8], out: &mut [u8]) -> Result<usize, Refusal> {
     // SAFETY: the archive reads and writes only the bytes behind the pointers, as many as their lengths say, and keeps nothing.
+    let word = unsafe { archive::start(table.as_ptr(), table.len(), values.as_ptr(), values.len(), out.as_mut_ptr(), out.len()) };
+    unpacked(word)
+}
+
+/// Writes the sheet of offered ends to the front of `out`, and returns its length.
+///
+/// `guards` holds a byte for each edge, 1 if tokens may go over it now; an edge that the table doesn't call guarded has 1. The sheet is its length (2 bytes),
+/// version 1 and the number of ends; then, for each end in the paper's order, its last edge, 1 or 0 for value or none, four value bytes, the number of
+/// its paths, and each path as its length and its edges. 4,096 bytes hold any sheet. A refused call leaves `out` as it was.
+///
+/// # Errors
+/// Refusals 1 to 4 as for [`check`], 5 (the bytes are no marking of the table), 6 (the activity has ended), 7 (the guards' number or values), 8 (more than 64
+/// offers, 8 paths in an offer, or 20 ends) and 17 (`out` is shorter than the sheet); all places from 5 on are 0.
+///
+/// # Examples
+/// ```
+/// // the paper's small event: results (node 1) go by a decision (2) to a buffer (6), or by a join (3) to the pin (4) of an action (5)
+/// let table = [
+///     0, 0x33, 1, 7, 5, //
+///     1, 255, 0, 0, 6, 255, 0, 4, 8, 255, 0, 0, 11, 255, 0, 0, 3, 5, 1, 1, 2, 255, 0, 0, 5, 255, 0, 2, //
+///     0, 0, 3, 0, 1, 1, 2, 0, 1, 2, 3, 1, 1, 2, 6, 1, 1, 3, 4, 0,
+/// ];
+/// let marking = [0, 15, 1, 0, 2, 0, 0, 0, 7, 0, 0, 0, 9, 0, 0, 0, 1];
+/// let mut out = [0; 4096];
+/// let length = keshmirun::sheet(&table, &marking, &[1; 5], &mut out).unwrap();
+/// // two ends, on edges 3 and 4, both with value 7; the second needs two paths, since a join brings them together
+/// let ends = [3, 1, 0, 0, 0, 7, 1, 2, 1, 3, 4, 1, 0, 0, 0, 7, 2, 2, 0, 4, 3, 1, 2, 4];
+/// assert_eq!(out[..length], [&[0, 26, 1, 2][..], &ends].concat());
+///
+/// // edge 3 closed: the second alone is left
+/// let length = keshmirun::sheet(&table, &marking, &[1, 1, 1, 0, 1], &mut out).unwrap();
+/// assert_eq!(out[..length], [&[0, 16, 1, 1][..], &ends[10..]].concat());
+/// ```
+pub fn sheet(table: &[u8], marking: &[u8], guards: &[u8], out: &mut [u8]) -> Result<usize, Refusal> {
+    // SAFETY: the archive reads and writes only the bytes behind the pointers, as many as their lengths say, and keeps nothing.
     let word = unsafe {
-        archive::start(table.as_ptr(), table.len(), values.as_ptr(), values.len(), out.as_mut_ptr(), out.len())
+        archive::sheet(table.as_ptr(), table.len(), marking.as_ptr(), marking.len(), guards.as_ptr(), guards.len(), out.as_mut_ptr(), out.len())
+    };
+    unpacked(word)
+}
+
+/// The number that names no node to [`pick`].
+pub const NO_NODE: u8 = 255;
+
+/// Writes the first acceptable choice of ends to the front of `out`, one byte an end, and returns how many it has.
+///
+/// With a node named it is the first that has an end of that node, or of a pin of it if it is an action; [`NO_NODE`] names none. Of two choices the one that
+/// holds the lowest end held by only one of them comes first. [`step`] takes what `pick` answers. 20 bytes hold any choice. A refused call leaves `out` as it was.
+///
+/// # Errors
+/// Refusals 1 to 8 as for [`sheet`], 13 (a node is named and no acceptable choice has an end of it; the place is that node) and 17 (`out` is shorter than the
+/// choice).
+///
+/// # Examples
+/// ```
+/// // the paper's small event, as in the example of `sheet`
+/// let table = [
+///     0, 0x33, 1, 7, 5, //
+///     1, 255, 0, 0, 6, 255, 0, 4, 8, 255, 0, 0, 11, 255, 0, 0, 3, 5, 1, 1, 2, 255, 0, 0, 5, 255, 0, 2, //
+///     0, 0, 3, 0, 1, 1, 2, 0, 1, 2, 3, 1, 1, 2, 6, 1, 1, 3, 4, 0,
+/// ];
+/// let marking = [0, 15, 1, 0, 2, 0, 0, 0, 7, 0, 0, 0, 9, 0, 0, 0, 1];
+/// let mut out = [0; 20];
+/// assert_eq!(keshmirun::pick(&table, &marking, &[1; 5], keshmirun::NO_NODE, &mut out), Ok(1));
+/// assert_eq!(out[0], 0);
+///
+/// // the action gets the value by its pin
+/// assert_eq!(keshmirun::pick(&table, &marking, &[1; 5], 5, &mut out), Ok(1));
+/// assert_eq!(out[0], 1);
+///
+/// // nothing ends at a decision
+/// let refusal = keshmirun::pick(&table, &marking, &[1; 5], 2, &mut out).unwrap_err();
+/// assert_eq!((refusal.number, refusal.place), (13, 2));
+/// ```
+pub fn pick(table: &[u8], marking: &[u8], guards: &[u8], node: u8, out: &mut [u8]) -> Result<usize, Refusal> {
+    // SAFETY: the archive reads and writes only the bytes behind the pointers, as many as their lengths say, and keeps nothing.
+    let word = unsafe {
+        archive::pick(table.as_ptr(), table.len(), marking.as_ptr(), marking.len(), guards.as_ptr(), guards.len(), node, out.as_mut_ptr(), out.len())
+    };
+    unpacked(word)
+}
+
+/// Writes the marking after a choice of ends is taken to the front of `out`, and returns its length.
+///
+/// `choice` names ends by their numbers on the [`sheet`] of the same table, marking and guards, in rising order; it may be empty. What its ends were made from
+/// is spent, and then their targets gain in the order of ends. A refused call leaves `out` as it was.
+///
+/// # Errors
+/// Refusals 1 to 8 as for [`sheet`], 9 (the choice is not strictly rising, or names no end), 10 (two of its ends compete; the place is the lowest that does),
+/// 11 (a fork is not passed whole; the lowest such fork), 12 (a destination doesn't agree; the lowest such node, an action for its pins) and 17 (`out` is
+/// shorter than the marking).
+///
+/// # Examples
+/// ```
+/// // the paper's small event, as in the example of `sheet`
+/// let table = [
+///     0, 0x33, 1, 7, 5, //
+///     1, 255, 0, 0, 6, 255, 0, 4, 8, 255, 0, 0, 11, 255, 0, 0, 3, 5, 1, 1, 2, 255, 0, 0, 5, 255, 0, 2, //
+///     0, 0, 3, 0, 1, 1, 2, 0, 1, 2, 3, 1, 1, 2, 6, 1, 1, 3, 4, 0,
+/// ];
+/// let marking = [0, 15, 1, 0, 2, 0, 0, 0, 7, 0, 0, 0, 9, 0, 0, 0, 1];
+/// let mut out = [0; 4096];
+/// let length = keshmirun::step(&table, &marking, &[1; 5], &[1], &mut out).unwrap();
+/// // 7 went to the pin and the initial node's token with it, so the action runs
+/// assert_eq!(out[..length], [0, 15, 1, 0, 1, 0, 0, 0, 9, 1, 0, 0, 0, 7, 1, 0, 0]);
+///
+/// // both ends are made from the value 7
+/// let refusal = keshmirun::step(&table, &marking, &[1; 5], &[0, 1], &mut out).unwrap_err();
+/// assert_eq!((refusal.number, refusal.place), (10, 0));
+/// ```
+pub fn step(table: &[u8], marking: &[u8], guards: &[u8], choice: &[u8], out: &mut [u8]) -> Result<usize, Refusal> {
+    // SAFETY: the archive reads and writes only the bytes behind the pointers, as many as their lengths say, and keeps nothing.
+    let word = unsafe {
+        archive::step(
+            table.as_ptr(),
+            table.len(),
+            marking.as_ptr(),
+            marking.len(),
+            guards.as_ptr(),
+            guards.len(),
+            choice.as_ptr(),
+            choice.len(),
+            out.as_mut_ptr(),
+            out.len(),
+        )
     };
     unpacked(word)
 }

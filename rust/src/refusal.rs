@@ -3,6 +3,12 @@
 use std::fmt;
 
 /// A refusal: its number in the paper's table, and the place that the table gives for it.
+///
+/// # Examples
+/// ```
+/// let refusal = keshmirun::check(&[]).unwrap_err();
+/// assert_eq!(refusal.to_string(), "refused 1 0: the table's frame, version or counts");
+/// ```
 #[derive(Clone, Copy, Debug, PartialEq, Eq, Hash)]
 pub struct Refusal {
     /// 1 to 17.

@@ -1,7 +1,7 @@
 //! `check` against the plain reading of the paper, on good, bad and damaged tables with fixed seeds.
 
 use keshmirun::Refusal;
-use reading::random::{damaged, table, Rng};
+use reading::random::{damaged, table, Parts, Rng};
 use reading::Answer;
 
 /// Calls on a copy that stands amid other bytes, and sees that none of them changed.
@@ -40,14 +40,28 @@ fn compare(seed: u64, calls: usize, mut next: impl FnMut(&mut Rng) -> Vec<u8>) -
 
 #[test]
 fn good_tables() {
-    let seen = compare(1, 40_000, table);
+    let mut parts = Parts::default();
+    let mut turn = 0;
+    let seen = compare(1, 40_000, |rng| {
+        if turn % 4 == 0 {
+            parts = Parts::of(&table(rng)).unwrap();
+        }
+        turn += 1;
+        parts.shuffle(rng); // the same diagram, numbered anew
+        parts.write()
+    });
     assert!(seen[0] > 30_000, "{seen:?}");
 }
 
 #[test]
 fn damaged_tables() {
+    let mut good = Vec::new();
+    let mut turn = 0;
     let seen = compare(2, 100_000, |rng| {
-        let good = table(rng);
+        if turn % 4 == 0 {
+            good = table(rng);
+        }
+        turn += 1;
         damaged(rng, &good)
     });
     assert!(seen.iter().all(|&count| count > 1_000), "{seen:?}");

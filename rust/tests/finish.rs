@@ -1,12 +1,11 @@
-//! `finish` against the plain reading of the paper, with fixed seeds: running and idle actions, good and damaged markings, edge counts up to 254 and 255,
-//! good and spoiled values, room to spare, exact and one short.
+//! `finish` against the plain reading of the paper, with fixed seeds: whole random events and markings from anywhere, running and idle actions, good and
+//! damaged markings, edge counts up to 254 and 255, good and spoiled values, room to spare, exact and one short.
 
 mod common;
 
-use common::{assert_same, room, Lent, Seen};
+use common::points::Walk;
+use common::{called, room, within, Seen};
 use reading::random::{damaged, damaged_bytes, outputs, Event, Rng};
-
-const CALLS: usize = 100_000;
 
 /// Most often an action that runs; at times any number.
 fn action(rng: &mut Rng, event: &Event) -> u8 {
@@ -16,28 +15,44 @@ fn action(rng: &mut Rng, event: &Event) -> u8 {
     }
 }
 
-#[test]
-fn as_the_paper_reads() {
-    let mut rng = Rng::new(12);
+/// Calls at so many points of events, four at each.
+fn seen(seed: u64, points: usize, mut next: impl FnMut(&mut Rng) -> Event) -> Seen {
+    let mut rng = Rng::new(seed);
     let mut seen = Seen::default();
-    for k in 0..CALLS {
-        let event = Event::anywhere(&mut rng);
-        let action = action(&mut rng, &event);
-        let Event { mut table, mut marking, .. } = event;
-        let lists = outputs(&mut rng, &table, &marking, action);
-        if rng.percent(10) {
-            marking = damaged_bytes(&mut rng, &marking);
+    for _ in 0..points {
+        let event = next(&mut rng);
+        for _ in 0..4 {
+            compare(&mut rng, &mut seen, &event);
         }
-        if rng.percent(10) {
-            table = damaged(&mut rng, &table);
-        }
-        let room = room(&mut rng, &reading::finish(&table, &marking, action, &lists, usize::MAX));
-        let expected = reading::finish(&table, &marking, action, &lists, room);
-        let (table, marking, lists) = (Lent::new(&table, k as u8), Lent::new(&marking, k as u8), Lent::new(&lists, k as u8));
-        let mut out = Lent::new(&vec![!k as u8; room], k as u8);
-        let answer = keshmirun::finish(table.slice(), marking.slice(), action, lists.slice(), out.slice_mut());
-        assert_same(answer, &out, &expected);
-        seen.note(answer);
     }
-    seen.assert_each(100, &[0, 1, 2, 3, 4, 5, 6, 14, 15, 16, 17]);
+    seen
+}
+
+fn compare(rng: &mut Rng, seen: &mut Seen, event: &Event) {
+    let action = action(rng, event);
+    let Event { mut table, mut marking, .. } = event.clone();
+    let lists = outputs(rng, &table, &marking, action);
+    if rng.percent(10) {
+        marking = damaged_bytes(rng, &marking);
+    }
+    if rng.percent(10) {
+        table = damaged(rng, &table);
+    }
+    let full = reading::finish(&table, &marking, action, &lists, usize::MAX);
+    let room = room(rng, &full);
+    let answer = called(rng.byte(), &[&table, &marking, &lists], room, &within(room, full), |lent, out| {
+        keshmirun::finish(lent[0].slice(), lent[1].slice(), action, lent[2].slice(), out)
+    });
+    seen.note(answer);
+}
+
+#[test]
+fn whole_events() {
+    let mut walk = Walk::default();
+    seen(14, 10_000, |rng| walk.next(rng)).assert_each(100, &[0, 1, 2, 3, 4, 5, 6, 14, 15, 16, 17]);
+}
+
+#[test]
+fn from_anywhere() {
+    seen(12, 15_000, Event::anywhere).assert_each(100, &[0, 1, 2, 3, 4, 5, 6, 14, 15, 16, 17]);
 }

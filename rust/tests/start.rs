@@ -3,26 +3,34 @@
 
 mod common;
 
-use common::{assert_same, room, Lent, Seen};
+use common::{called, room, within, Seen};
 use reading::random::{damaged, table, values, Rng};
 
-const CALLS: usize = 100_000;
+/// Calls on so many random tables, four on each, with one table in `times` damaged.
+fn seen(seed: u64, tables: usize, times: usize) -> Seen {
+    let mut rng = Rng::new(seed);
+    let mut seen = Seen::default();
+    for _ in 0..tables {
+        let good = table(&mut rng);
+        for _ in 0..4 {
+            let lists = values(&mut rng, &good);
+            let table = if rng.below(times) == 0 { damaged(&mut rng, &good) } else { good.clone() };
+            let full = reading::start(&table, &lists, usize::MAX);
+            let room = room(&mut rng, &full);
+            let answer =
+                called(rng.byte(), &[&table, &lists], room, &within(room, full), |lent, out| keshmirun::start(lent[0].slice(), lent[1].slice(), out));
+            seen.note(answer);
+        }
+    }
+    seen
+}
 
 #[test]
-fn as_the_paper_reads() {
-    let mut rng = Rng::new(11);
-    let mut seen = Seen::default();
-    for k in 0..CALLS {
-        let good = table(&mut rng);
-        let lists = values(&mut rng, &good);
-        let table = if rng.percent(20) { damaged(&mut rng, &good) } else { good };
-        let room = room(&mut rng, &reading::start(&table, &lists, usize::MAX));
-        let expected = reading::start(&table, &lists, room);
-        let (table, lists) = (Lent::new(&table, k as u8), Lent::new(&lists, k as u8));
-        let mut out = Lent::new(&vec![!k as u8; room], k as u8);
-        let answer = keshmirun::start(table.slice(), lists.slice(), out.slice_mut());
-        assert_same(answer, &out, &expected);
-        seen.note(answer);
-    }
-    seen.assert_each(100, &[0, 1, 2, 3, 4, 15, 16, 17]);
+fn good_tables() {
+    seen(11, 12_500, usize::MAX).assert_each(100, &[0, 15, 16, 17]);
+}
+
+#[test]
+fn some_damaged() {
+    seen(13, 12_500, 3).assert_each(100, &[0, 1, 2, 3, 4, 15, 16, 17]);
 }

@@ -24,6 +24,6 @@ mod refusal;
 mod table;
 
 pub use operations::{
-    check, finish, pick, pick_within, sheet, sheet_within, start, step, step_within, Answer,
+    check, finish, pick, pick_within, sheet, sheet_within, start, step, step_within, Answer, Board,
     NO_NODE,
 };

@@ -48,6 +48,8 @@ pub struct Offer {
 pub struct Offers {
     /// All offers, those that were made from others after these.
     pub list: Vec<Offer>,
+    /// Per offer, those that are of sort (a), (b) or (c) with it.
+    rivals: Vec<Vec<usize>>,
     /// Per offer, whether it competes with each of the offers before it.
     competing: Vec<Vec<bool>>,
     /// The ends, in their order: end 0 is the offer `ends[0]`.
@@ -77,6 +79,7 @@ impl Offers {
     ) -> Result<Offers, Stop> {
         let mut offers = Offers {
             list: Vec::new(),
+            rivals: Vec::new(),
             competing: Vec::new(),
             ends: Vec::new(),
         };
@@ -219,7 +222,8 @@ impl Offers {
             paths,
             makers,
         });
-        let competes_with = |earlier| self.have_rival_makers(table, earlier, number);
+        self.note_rivals(table, number);
+        let competes_with = |earlier| self.have_rival_makers(earlier, number);
         let row = (0..number).map(competes_with).collect();
         self.competing.push(row);
         Ok(())
@@ -245,17 +249,23 @@ impl Offers {
 
     /// "Two offers compete if a maker of one and a different maker of the other
     /// are" rivals.
-    fn have_rival_makers(&self, table: &Table, one: usize, other: usize) -> bool {
-        let ones = &self.list[one].makers;
+    fn have_rival_makers(&self, one: usize, other: usize) -> bool {
         let others = &self.list[other].makers;
-        ones.iter().any(|a| {
-            others
-                .iter()
-                .any(|b| a != b && self.are_rivals(table, *a, *b))
-        })
+        let has_rival = |maker: &usize| self.rivals[*maker].iter().any(|r| others.contains(r));
+        self.list[one].makers.iter().any(has_rival)
     }
 
-    /// Whether two different makers are of sort (a), (b) or (c).
+    /// Notes which of the offers before it are the rivals of this one.
+    fn note_rivals(&mut self, table: &Table, number: usize) {
+        let is_rival = |earlier: &usize| self.are_rivals(table, *earlier, number);
+        let rivals: Vec<usize> = (0..number).filter(is_rival).collect();
+        for rival in &rivals {
+            self.rivals[*rival].push(number);
+        }
+        self.rivals.push(rivals);
+    }
+
+    /// Whether two different offers are of sort (a), (b) or (c).
     fn are_rivals(&self, table: &Table, one: usize, other: usize) -> bool {
         let one = &self.list[one];
         let other = &self.list[other];

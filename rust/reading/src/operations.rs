@@ -78,13 +78,10 @@ pub fn sheet_within(
     budget: u64,
 ) -> Option<Answer> {
     let mut budget = Budget::new(budget);
-    bounded_answer(with_choices(
-        table,
-        marking,
-        guards,
-        &mut budget,
-        |choices, _| Ok(fit(written_sheet(choices.offers), room)?),
-    ))
+    bounded_answer(
+        Board::of(table, marking, guards, &mut budget)
+            .and_then(|board| Ok(fit(written_sheet(&board.offers), room)?)),
+    )
 }
 
 /// [`pick`] with at most `budget` enumeration steps, `None` if they run out.
@@ -97,16 +94,10 @@ pub fn pick_within(
     budget: u64,
 ) -> Option<Answer> {
     let mut budget = Budget::new(budget);
-    bounded_answer(with_choices(
-        table,
-        marking,
-        guards,
-        &mut budget,
-        |choices, budget| {
-            let choice = picked(choices, node, budget)?;
-            Ok(fit(choice.iter().map(|end| *end as u8).collect(), room)?)
-        },
-    ))
+    bounded_answer(
+        Board::of(table, marking, guards, &mut budget)
+            .and_then(|board| board.picked(node, room, &mut budget)),
+    )
 }
 
 /// [`step`] with at most `budget` enumeration steps, `None` if they run out.
@@ -119,37 +110,94 @@ pub fn step_within(
     budget: u64,
 ) -> Option<Answer> {
     let mut budget = Budget::new(budget);
-    bounded_answer(with_choices(
-        table,
-        marking,
-        guards,
-        &mut budget,
-        |choices, _| {
-            let choice = choices.read(choice)?;
-            choices.accept(&choice)?;
-            Ok(fit(choices.step(&choice).write(choices.table), room)?)
-        },
-    ))
+    bounded_answer(
+        Board::of(table, marking, guards, &mut budget)
+            .and_then(|board| Ok(board.stepped(choice, room)?)),
+    )
 }
 
-/// Refusals 1 to 8, which sheet, pick and step share; then what `reply` says.
-fn with_choices(
-    table: &[u8],
-    marking: &[u8],
-    guards: &[u8],
-    budget: &mut Budget,
-    reply: impl Fn(&Choices, &mut Budget) -> Result<Vec<u8>, Stop>,
-) -> Result<Vec<u8>, Stop> {
-    let table = Table::read(table)?;
-    let marking = live_marking(&table, marking)?;
-    let is_open = read_guards(&table, guards)?;
-    let offers = Offers::of(&table, &marking, &is_open, budget)?;
-    let choices = Choices {
-        table: &table,
-        marking: &marking,
-        offers: &offers,
-    };
-    reply(&choices, budget)
+/// What sheet, pick and step judge first: a table, a marking and the offers under
+/// some guards. Read once, so that many choices can be tried on it.
+#[derive(Debug)]
+pub struct Board {
+    table: Table,
+    marking: Marking,
+    offers: Offers,
+}
+
+impl Board {
+    /// The board of these, or the refusal from 1 to 8 that sheet, pick and step
+    /// share; `None` if it takes more than `budget` enumeration steps.
+    pub fn within(
+        table: &[u8],
+        marking: &[u8],
+        guards: &[u8],
+        budget: u64,
+    ) -> Option<Result<Board, Answer>> {
+        match Board::of(table, marking, guards, &mut Budget::new(budget)) {
+            Ok(board) => Some(Ok(board)),
+            Err(stop) => bounded_answer(Err(stop)).map(Err),
+        }
+    }
+
+    /// Refusals 1 to 8, or the board.
+    fn of(table: &[u8], marking: &[u8], guards: &[u8], budget: &mut Budget) -> Result<Board, Stop> {
+        let table = Table::read(table)?;
+        let marking = live_marking(&table, marking)?;
+        let is_open = read_guards(&table, guards)?;
+        let offers = Offers::of(&table, &marking, &is_open, budget)?;
+        Ok(Board {
+            table,
+            marking,
+            offers,
+        })
+    }
+
+    /// The choices among its ends.
+    fn choices(&self) -> Choices<'_> {
+        Choices {
+            table: &self.table,
+            marking: &self.marking,
+            offers: &self.offers,
+        }
+    }
+
+    /// The number of its ends.
+    pub fn ends(&self) -> usize {
+        self.offers.ends.len()
+    }
+
+    /// The targets of its ends, in their order.
+    pub fn targets(&self) -> Vec<u8> {
+        let ends = (0..self.ends()).map(|end| self.offers.end(end));
+        ends.map(|end| self.table.edges[end.edge].target as u8)
+            .collect()
+    }
+
+    /// What [`step`] answers here.
+    pub fn step(&self, choice: &[u8], room: usize) -> Answer {
+        answer(self.stepped(choice, room))
+    }
+
+    /// What [`pick`] answers here, `None` if it takes more than `budget`
+    /// enumeration steps.
+    pub fn pick_within(&self, node: u8, room: usize, budget: u64) -> Option<Answer> {
+        bounded_answer(self.picked(node, room, &mut Budget::new(budget)))
+    }
+
+    /// The marking that step writes.
+    fn stepped(&self, choice: &[u8], room: usize) -> Result<Vec<u8>, Refusal> {
+        let choices = self.choices();
+        let choice = choices.read(choice)?;
+        choices.accept(&choice)?;
+        fit(choices.step(&choice).write(&self.table), room)
+    }
+
+    /// The choice that pick writes.
+    fn picked(&self, node: u8, room: usize, budget: &mut Budget) -> Result<Vec<u8>, Stop> {
+        let choice = picked(&self.choices(), node, budget)?;
+        Ok(fit(choice.iter().map(|end| *end as u8).collect(), room)?)
+    }
 }
 
 /// Refusals 5 and 6.
@@ -250,7 +298,7 @@ fn written_sheet(offers: &Offers) -> Vec<u8> {
     with_length(&body)
 }
 
-/// The choice that pick writes. Refusal 13: "pick: a node is named and no
+/// The first acceptable choice. Refusal 13: "pick: a node is named and no
 /// acceptable choice has an end of it".
 fn picked(choices: &Choices, node: u8, budget: &mut Budget) -> Result<Vec<usize>, Stop> {
     let named = if node == NO_NODE {

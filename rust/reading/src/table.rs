@@ -244,6 +244,9 @@ impl Table {
             .map(|node| is_control_node(self.kind(node)))
             .collect();
         for _ in 1..length {
+            if !ends.contains(&true) {
+                break; // no chain is so long, nor any longer one
+            }
             ends = self.ends_of_longer_chains(&ends);
         }
         ends
@@ -265,10 +268,11 @@ impl Table {
     /// leads to it: those that end only chains of 1, then of 2, and so on.
     pub fn control_nodes_in_flow_order(&self) -> Vec<usize> {
         let mut order = Vec::new();
-        for length in 1..FORBIDDEN_CHAIN {
-            let ends = self.ends_of_chains(length);
+        let mut ends = self.ends_of_chains(1);
+        while ends.contains(&true) {
             let longer = self.ends_of_longer_chains(&ends);
             order.extend(self.node_numbers().filter(|n| ends[*n] && !longer[*n]));
+            ends = longer;
         }
         order
     }

@@ -1,8 +1,15 @@
 //! Lent slices amid other bytes, and answers of the plain reading as the crate gives them.
 
+#![allow(dead_code)] // each test uses its part
+
+pub mod limits;
+pub mod points;
+pub mod second;
+
 use keshmirun::Refusal;
 use reading::random::Rng;
 use reading::Answer;
+use std::collections::BTreeSet;
 
 const MARGIN: usize = 64;
 
@@ -51,31 +58,67 @@ pub fn room(rng: &mut Rng, full: &Answer) -> usize {
     }
 }
 
-/// The engine's answer is the reading's, and it wrote just the reply.
-pub fn assert_same(answer: Result<usize, Refusal>, out: &Lent, expected: &Answer) {
-    match expected {
-        Answer::Good(reply) => {
-            assert_eq!(answer, Ok(reply.len()));
-            out.assert_written(reply);
-        }
-        Answer::Refused { number, place } => {
-            assert_eq!(answer, Err(Refusal { number: *number, place: *place }));
-            out.assert_written(&[]);
-        }
+/// What an answer with room to spare becomes in this room: 17 is the highest number, so every other refusal stays.
+pub fn within(room: usize, full: Answer) -> Answer {
+    match full {
+        Answer::Good(reply) if reply.len() > room => Answer::Refused { number: 17, place: 0 },
+        answer => answer,
     }
 }
 
-/// How often each answer came: 0 good, else the refusal's number.
+/// Calls the engine on lent copies of `inputs` and so much room. Its answer is the reading's, it wrote just the reply, and the inputs are as they were.
+pub fn called(
+    around: u8,
+    inputs: &[&[u8]],
+    room: usize,
+    expected: &Answer,
+    operation: impl FnOnce(&[Lent], &mut [u8]) -> Result<usize, Refusal>,
+) -> Result<usize, Refusal> {
+    let lent: Vec<Lent> = inputs.iter().map(|bytes| Lent::new(bytes, around)).collect();
+    let mut out = Lent::new(&vec![!around; room], around);
+    let answer = operation(&lent, out.slice_mut());
+    let (right, reply) = match expected {
+        Answer::Good(reply) => (Ok(reply.len()), &reply[..]),
+        Answer::Refused { number, place } => (Err(Refusal { number: *number, place: *place }), &[][..]),
+    };
+    assert_eq!(answer, right, "room {room}, inputs {inputs:02x?}");
+    out.assert_written(reply);
+    lent.iter().for_each(|lent| lent.assert_written(&[]));
+    answer
+}
+
+/// How often each answer came, 0 good, else the refusal's number; at which places; and how many calls the reading left out.
 #[derive(Debug, Default)]
-pub struct Seen([usize; 18]);
+pub struct Seen {
+    counts: [usize; 18],
+    places: [BTreeSet<u8>; 18],
+    skipped: usize,
+}
 
 impl Seen {
     pub fn note(&mut self, answer: Result<usize, Refusal>) {
-        self.0[answer.err().map_or(0, |refusal| usize::from(refusal.number))] += 1;
+        let refusal = answer.err().unwrap_or(Refusal { number: 0, place: 0 });
+        self.counts[usize::from(refusal.number)] += 1;
+        self.places[usize::from(refusal.number)].insert(refusal.place);
     }
 
-    /// Every one of these answers came at least so often.
+    /// A call whose answer the reading didn't find within its steps.
+    pub fn skip(&mut self) {
+        self.skipped += 1;
+    }
+
+    pub fn calls(&self) -> usize {
+        self.counts.iter().sum()
+    }
+
+    /// Every one of these answers came at least so often, and a call in a thousand was left out at most.
     pub fn assert_each(&self, least: usize, numbers: &[usize]) {
-        assert!(numbers.iter().all(|&number| self.0[number] >= least), "{self:?}");
+        assert!(numbers.iter().all(|&number| self.counts[number] >= least), "{self:?}");
+        assert!(self.skipped * 1_000 <= self.calls(), "{self:?}");
+    }
+
+    /// Every one of these refusals came at so many places.
+    pub fn assert_places(&self, least: usize, numbers: &[usize]) {
+        assert!(numbers.iter().all(|&number| self.places[number].len() >= least), "{self:?}");
     }
 }

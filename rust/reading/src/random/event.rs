@@ -1,10 +1,10 @@
 //! Random markings, guards, choices and value lists of a table, and whole events
 //! played from start by this crate's own operations.
 
-use super::{damaged_bytes, table, Rng};
+use super::{damaged_bytes, table, Parts, Rng};
 use crate::bytes::{write_stock, Value};
 use crate::marking::{counted_edges, Marking};
-use crate::operations::{finish, pick_within, sheet_within, start, step_within, Answer, NO_NODE};
+use crate::operations::{finish, start, Answer, Board, NO_NODE};
 use crate::table::{
     is_object_node, is_pin, Table, ACTION, INCOMING_PARAMETER, INPUT_PIN, MOST_NODES, MOST_UPPER,
     OUTPUT_PIN,
@@ -103,9 +103,9 @@ fn spoiled_sometimes(rng: &mut Rng, mut list: Vec<u8>) -> Vec<u8> {
 /// in four.
 pub fn guards(rng: &mut Rng, table: &[u8]) -> Vec<u8> {
     let mut bytes = Vec::new();
-    if let Ok(table) = Table::read(table) {
-        for edge in &table.edges {
-            let is_closed = edge.guarded == 1 && rng.percent(25);
+    if let Some(parts) = Parts::of(table) {
+        for [.., guarded] in &parts.edges {
+            let is_closed = *guarded == 1 && rng.percent(25);
             bytes.push(u8::from(!is_closed));
         }
     }
@@ -244,11 +244,12 @@ impl Event {
 
     /// The number of ends, if sheet answers.
     pub fn ends(&self) -> Option<usize> {
-        let room = usize::MAX;
-        match sheet_within(&self.table, &self.marking, &self.guards, room, MOVE_BUDGET)? {
-            Answer::Good(sheet) => sheet.get(3).map(|ends| usize::from(*ends)),
-            Answer::Refused { .. } => None,
-        }
+        Some(self.board()?.ends())
+    }
+
+    /// The board, unless sheet refuses it or it takes too long.
+    fn board(&self) -> Option<Board> {
+        Board::within(&self.table, &self.marking, &self.guards, MOVE_BUDGET)?.ok()
     }
 
     /// The actions that run.
@@ -265,20 +266,20 @@ impl Event {
     /// A node to name to pick: most often one that an edge with an end enters, or
     /// its action; at times any number.
     pub fn node(&self, rng: &mut Rng) -> u8 {
-        let room = usize::MAX;
-        let sheet = sheet_within(&self.table, &self.marking, &self.guards, room, MOVE_BUDGET);
-        let edges = match sheet {
-            Some(Answer::Good(sheet)) => last_edges(&sheet),
-            _ => Vec::new(),
-        };
-        match (rng.one_of(&edges), Table::read(&self.table)) {
-            (Some(edge), Ok(table)) if rng.percent(80) => {
-                let target = table.edges[usize::from(edge)].target;
-                let owner = table.nodes[target].owner;
-                if is_pin(table.kind(target)) && rng.percent(50) {
+        let targets = self.board().map_or(Vec::new(), |board| board.targets());
+        self.node_among(rng, &targets)
+    }
+
+    /// The same, if these are the targets of the ends.
+    fn node_among(&self, rng: &mut Rng, targets: &[u8]) -> u8 {
+        let nodes = Parts::of(&self.table).unwrap_or_default().nodes;
+        match rng.one_of(targets) {
+            Some(target) if rng.percent(80) => {
+                let [kind, owner, ..] = nodes[usize::from(target)];
+                if is_pin(kind) && rng.percent(50) {
                     owner
                 } else {
-                    target as u8
+                    target
                 }
             }
             _ => rng.below(MOST_NODES + 2) as u8,
@@ -288,30 +289,32 @@ impl Event {
     /// Takes a step by any choice, by the pick for any node, or by the pick with
     /// none named. False if none of them moves anything.
     fn step_once(&mut self, rng: &mut Rng) -> bool {
-        let named = self.node(rng);
-        let any_choice = choice(rng, self.ends().unwrap_or(0));
+        let board = match self.board() {
+            Some(board) => board,
+            None => return false,
+        };
+        let named = self.node_among(rng, &board.targets());
+        let any_choice = choice(rng, board.ends());
         let has_stepped = match rng.below(3) {
-            0 => self.step_by(&any_choice),
-            1 => self.step_by_pick(named),
+            0 => self.step_by(&board, &any_choice),
+            1 => self.step_by_pick(&board, named),
             _ => false,
         };
-        has_stepped || self.step_by_pick(NO_NODE)
+        has_stepped || self.step_by_pick(&board, NO_NODE)
     }
 
     /// Takes a step by what pick answers for this node.
-    fn step_by_pick(&mut self, node: u8) -> bool {
-        let (table, marking, guards) = (&self.table, &self.marking, &self.guards);
-        match pick_within(table, marking, guards, node, usize::MAX, MOVE_BUDGET) {
-            Some(Answer::Good(choice)) => self.step_by(&choice),
+    fn step_by_pick(&mut self, board: &Board, node: u8) -> bool {
+        match board.pick_within(node, usize::MAX, MOVE_BUDGET) {
+            Some(Answer::Good(choice)) => self.step_by(board, &choice),
             _ => false,
         }
     }
 
     /// Takes a step by this choice, unless it is empty or refused.
-    fn step_by(&mut self, choice: &[u8]) -> bool {
-        let (table, marking, guards) = (&self.table, &self.marking, &self.guards);
-        match step_within(table, marking, guards, choice, usize::MAX, MOVE_BUDGET) {
-            Some(Answer::Good(after)) if !choice.is_empty() => {
+    fn step_by(&mut self, board: &Board, choice: &[u8]) -> bool {
+        match board.step(choice, usize::MAX) {
+            Answer::Good(after) if !choice.is_empty() => {
                 self.marking = after;
                 true
             }
@@ -334,20 +337,4 @@ impl Event {
             Answer::Refused { .. } => false,
         }
     }
-}
-
-/// The last edges of the ends of a sheet, in their order.
-fn last_edges(sheet: &[u8]) -> Vec<u8> {
-    let mut edges = Vec::new();
-    let mut rest = sheet.get(4..).unwrap_or(&[]);
-    while rest.len() > 6 {
-        edges.push(rest[0]);
-        let paths = rest[6];
-        rest = &rest[7..];
-        for _ in 0..paths {
-            let length = rest.first().map_or(0, |length| usize::from(*length));
-            rest = rest.get(1 + length..).unwrap_or(&[]);
-        }
-    }
-    edges
 }

@@ -85,7 +85,8 @@ impl<'r> Diagram<'r> {
     /// Whether so many nodes and edges may come. One node is kept for a final,
     /// and one edge per action to feed it.
     fn has_room(&self, nodes: usize, edges: usize) -> bool {
-        let kept = self.parts.nodes_of(&[ACTION]).len() + 1;
+        let is_action = |node: &&[u8; 4]| node[0] == ACTION;
+        let kept = self.parts.nodes.iter().filter(is_action).count() + 1;
         let edges_now = self.parts.edges.len() + self.open.len();
         self.parts.nodes.len() + nodes < self.most_nodes
             && edges_now + edges + kept <= self.most_edges

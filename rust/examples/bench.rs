@@ -1,0 +1,161 @@
+//! The six operations timed beside the plain reading of the paper, in one run and build: the small event, a day of 41 nodes and 40 edges with 11 ends, the
+//! limits, and events on which joins or picks are hard. Prints medians in microseconds, and how many times as long the reading takes.
+//!
+//!     cargo run --release --example bench
+
+#[path = "events/mod.rs"]
+mod events;
+#[path = "events/hard.rs"]
+mod hard;
+
+use events::list;
+use hard::HARD;
+use keshmirun::{Refusal, NO_NODE};
+use reading::Answer;
+use std::time::{Duration, Instant};
+
+const ROUNDS: usize = 7;
+const LEAST_ROUND: Duration = Duration::from_millis(2);
+/// The reading stops after so many enumeration steps; what it then took is a lower bound.
+const BUDGET: u64 = 300_000;
+
+/// What the operations are given at one point of an event.
+struct Point {
+    name: String,
+    table: Vec<u8>,
+    /// For start.
+    values: Vec<u8>,
+    /// For sheet, pick and step.
+    marking: Vec<u8>,
+    guards: Vec<u8>,
+    choice: Vec<u8>,
+    /// For finish: a marking in which the action runs, and its results.
+    running: Vec<u8>,
+    action: u8,
+    results: Vec<u8>,
+}
+
+fn main() -> Result<(), Refusal> {
+    println!("{:8} {:16} {:>11} {:>12} {:>9}", "", "", "engine us", "reading us", "ratio");
+    for point in [small()?, day()?, limits()?] {
+        all_six(&point);
+    }
+    for (number, event) in HARD.iter().enumerate() {
+        let name = format!("hard {}", number + 1);
+        let (table, marking, guards) = (hex(event.table), hex(event.marking), hex(event.guards));
+        sheet(&name, &table, &marking, &guards);
+        for node in event.nodes {
+            pick(&format!("{name} for {node}"), &table, &marking, &guards, *node);
+        }
+    }
+    Ok(())
+}
+
+/// The paper's small event; the second end is taken, and the action finished.
+fn small() -> Result<Point, Refusal> {
+    let table = events::small().table;
+    let values = list(&[7, 9]);
+    let marking = written(|out| keshmirun::start(&table, &values, out))?;
+    let running = written(|out| keshmirun::step(&table, &marking, &[1; 5], &[1], out))?;
+    let name = String::from("small event");
+    Ok(Point { name, values, marking, guards: vec![1; 5], choice: vec![1], running, action: 5, results: Vec::new(), table })
+}
+
+/// The day when its round is called: the seats are full, two are left over, and both matches begin; then the first of them ends.
+fn day() -> Result<Point, Refusal> {
+    let table = events::day().table;
+    let values = list(&[40, 17, 23, 8, 31, 5]);
+    let mut guards = vec![1; usize::from(table[4])];
+    guards[events::TO_RESERVE] = 0;
+    let mut marking = written(|out| keshmirun::start(&table, &values, out))?;
+    for _ in 0..4 {
+        let choice = written(|out| keshmirun::pick(&table, &marking, &guards, NO_NODE, out))?;
+        marking = written(|out| keshmirun::step(&table, &marking, &guards, &choice, out))?;
+    }
+    marking = written(|out| keshmirun::finish(&table, &marking, 8, &[], out))?;
+    guards[events::TO_RESERVE] = 1;
+    let choice = written(|out| keshmirun::pick(&table, &marking, &guards, NO_NODE, out))?;
+    let running = written(|out| keshmirun::step(&table, &marking, &guards, &choice, out))?;
+    let results = [list(&[17]), list(&[40])].concat();
+    Ok(Point { name: String::from("day"), table, values, marking, guards, choice, running, action: 10, results })
+}
+
+fn limits() -> Result<Point, Refusal> {
+    let table = events::limits().table;
+    let (marking, running) = (events::limits_marking(false), events::limits_marking(true));
+    let (guards, choice) = (vec![1; 64], (0..20).collect());
+    Ok(Point { name: String::from("limits"), table, values: Vec::new(), marking, guards, choice, running, action: 13, results: Vec::new() })
+}
+
+/// What an operation writes.
+fn written(operation: impl Fn(&mut [u8]) -> Result<usize, Refusal>) -> Result<Vec<u8>, Refusal> {
+    let mut out = [0; 4096];
+    let length = operation(&mut out)?;
+    Ok(out[..length].to_vec())
+}
+
+fn all_six(point: &Point) {
+    let Point { name, table, values, marking, guards, choice, running, action, results } = point;
+    row("check", name, |_| keshmirun::check(table).map(|_| 0), || Some(reading::check(table)));
+    row("start", name, |out| keshmirun::start(table, values, out), || Some(reading::start(table, values, 4096)));
+    sheet(name, table, marking, guards);
+    pick(name, table, marking, guards, NO_NODE);
+    row(
+        "step",
+        name,
+        |out| keshmirun::step(table, marking, guards, choice, out),
+        || reading::step_within(table, marking, guards, choice, 4096, BUDGET),
+    );
+    row(
+        "finish",
+        name,
+        |out| keshmirun::finish(table, running, *action, results, out),
+        || Some(reading::finish(table, running, *action, results, 4096)),
+    );
+}
+
+fn sheet(name: &str, table: &[u8], marking: &[u8], guards: &[u8]) {
+    row("sheet", name, |out| keshmirun::sheet(table, marking, guards, out), || reading::sheet_within(table, marking, guards, 4096, BUDGET));
+}
+
+fn pick(name: &str, table: &[u8], marking: &[u8], guards: &[u8], node: u8) {
+    row("pick", name, |out| keshmirun::pick(table, marking, guards, node, out), || reading::pick_within(table, marking, guards, node, 4096, BUDGET));
+}
+
+/// Times both, and prints a line. Both must say the same, where the reading comes to its answer.
+fn row(operation: &str, event: &str, engine: impl Fn(&mut [u8]) -> Result<usize, Refusal>, plain: impl Fn() -> Option<Answer>) {
+    let mut out = [0; 4096];
+    let answer = match engine(&mut out) {
+        Ok(length) => Answer::Good(out[..length].to_vec()),
+        Err(Refusal { number, place }) => Answer::Refused { number, place },
+    };
+    let read = plain();
+    assert!(read.is_none() || read.as_ref() == Some(&answer), "{operation} of {event}: {answer:?} and {read:?}");
+    let fast = median(|| engine(&mut out).map_or_else(|refusal| usize::from(refusal.number), |length| length));
+    let slow = median(|| usize::from(plain() == read));
+    let bound = if read.is_none() { ">" } else { "" };
+    println!("{operation:8} {event:16} {fast:>11.2} {:>12} {:>9}", format!("{bound}{slow:.2}"), format!("{bound}{:.1}", slow / fast));
+}
+
+/// The median time of a call over some rounds, in microseconds. The calls of a round fill a while, and what they answer is used.
+fn median(mut call: impl FnMut() -> usize) -> f64 {
+    let once = time(1, &mut call);
+    let calls = (LEAST_ROUND.as_secs_f64() / once.as_secs_f64().max(1e-9)).clamp(1.0, 100_000.0) as u32;
+    let rounds = if once > 20 * LEAST_ROUND { 1 } else { ROUNDS };
+    let mut times: Vec<Duration> = (0..rounds).map(|_| time(calls, &mut call) / calls).collect();
+    times.sort_unstable();
+    times[rounds / 2].as_secs_f64() * 1e6
+}
+
+fn time(calls: u32, call: &mut impl FnMut() -> usize) -> Duration {
+    let begin = Instant::now();
+    let used = (0..calls).fold(0_usize, |used, _| used.wrapping_add(call()));
+    let took = begin.elapsed();
+    assert!(used < usize::MAX);
+    took
+}
+
+fn hex(text: &str) -> Vec<u8> {
+    let digit = |byte: u8| (byte as char).to_digit(16).unwrap_or(0) as u8;
+    text.as_bytes().chunks(2).map(|pair| 16 * digit(pair[0]) + digit(pair[1])).collect()
+}

@@ -1,0 +1,41 @@
+//! Points of random events at which sheet, pick and step are called.
+
+use reading::random::{damaged, damaged_bytes, guards, Event, Rng};
+
+/// How many enumeration steps the reading may take for a call; what passes them is skipped, and counted.
+pub const BUDGET: u64 = 20_000;
+
+/// Whole events, one after another: most are played from their start, one in four from anywhere.
+#[derive(Default)]
+pub struct Walk {
+    event: Option<Event>,
+}
+
+impl Walk {
+    /// The next point: the event goes on, or another one begins.
+    pub fn next(&mut self, rng: &mut Rng) -> Event {
+        let event = match self.event.take() {
+            Some(event) => event,
+            None if rng.percent(25) => Event::anywhere(rng),
+            None => Event::begin(rng),
+        };
+        let mut after = event.clone();
+        if after.go_on(rng) {
+            self.event = Some(after);
+        }
+        event
+    }
+}
+
+/// The same point under other guards, and once in five times with a damaged table, marking or guards.
+pub fn varied(rng: &mut Rng, event: &Event) -> Event {
+    let mut event = event.clone();
+    event.guards = guards(rng, &event.table);
+    match rng.below(15) {
+        0 => event.table = damaged(rng, &event.table),
+        1 => event.marking = damaged_bytes(rng, &event.marking),
+        2 => event.guards = damaged_bytes(rng, &event.guards),
+        _ => {}
+    }
+    event
+}

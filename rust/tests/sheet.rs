@@ -1,0 +1,70 @@
+//! `sheet` against the plain reading of the paper, with fixed seeds: whole random events, markings from anywhere, tables at the sizes' limits, good and
+//! damaged inputs, room to spare, exact and one short.
+
+mod common;
+
+use common::points::{varied, Walk, BUDGET};
+use common::{called, limits, room, within, Seen};
+use keshmirun::Refusal;
+use reading::random::{Event, Parts, Rng};
+
+/// So many calls, four at each point.
+fn seen(seed: u64, calls: usize, mut next: impl FnMut(&mut Rng) -> Event) -> Seen {
+    let mut rng = Rng::new(seed);
+    let mut seen = Seen::default();
+    while seen.calls() < calls {
+        let event = next(&mut rng);
+        for _ in 0..4 {
+            let event = varied(&mut rng, &event);
+            compare(&mut rng, &mut seen, &event);
+        }
+    }
+    seen
+}
+
+fn compare(rng: &mut Rng, seen: &mut Seen, Event { table, marking, guards, .. }: &Event) {
+    let full = match reading::sheet_within(table, marking, guards, usize::MAX, BUDGET) {
+        Some(full) => full,
+        None => return seen.skip(),
+    };
+    let room = room(rng, &full);
+    let answer = called(rng.byte(), &[table, marking, guards], room, &within(room, full), |lent, out| {
+        keshmirun::sheet(lent[0].slice(), lent[1].slice(), lent[2].slice(), out)
+    });
+    seen.note(answer);
+}
+
+#[test]
+fn whole_events() {
+    let mut walk = Walk::default();
+    seen(21, 50_000, |rng| walk.next(rng)).assert_each(100, &[0, 1, 2, 3, 4, 5, 6, 7, 8, 17]);
+}
+
+#[test]
+fn from_anywhere() {
+    seen(22, 35_000, Event::anywhere).assert_each(100, &[0, 1, 2, 3, 4, 5, 6, 7, 8, 17]);
+}
+
+#[test]
+fn near_the_sizes() {
+    seen(23, 15_000, limits::event).assert_each(1_000, &[0, 8, 17]);
+}
+
+#[test]
+fn sizes_met_and_passed_by_one() {
+    let mut rng = Rng::new(24);
+    for (made, most) in [(limits::offers as fn(&mut Rng, usize) -> Parts, 64), (limits::paths, 8), (limits::ends, 20)] {
+        for _ in 0..100 {
+            let met = made(&mut rng, most);
+            assert!(first_sheet(&mut rng, &met).is_ok(), "{met:?}");
+            let passed = made(&mut rng, most + 1);
+            assert_eq!(first_sheet(&mut rng, &passed), Err(Refusal { number: 8, place: 0 }), "{passed:?}");
+        }
+    }
+}
+
+/// The sheet with every source full and every guard 1.
+fn first_sheet(rng: &mut Rng, parts: &Parts) -> Result<usize, Refusal> {
+    let marking = limits::full(rng, parts);
+    keshmirun::sheet(&parts.write(), &marking, &vec![1; parts.edges.len()], &mut [0; 4096])
+}

@@ -1,0 +1,40 @@
+/* The paper's small event by the six calls of keshmirun.h. Ends with 0 if every answer is the paper's, else with the line that is not. */
+#include "keshmirun.h"
+
+#include <string.h>
+
+static const uint8_t table[] = {0, 0x33, 1, 7, 5, 1, 255, 0, 0, 6, 255, 0, 4, 8, 255, 0, 0, 11, 255, 0, 0, 3, 5, 1, 1, 2, 255, 0, 0, 5, 255, 0, 2,
+                                0, 0,    3, 0, 1, 1, 2,   0, 1, 2, 3,   1, 1, 2, 6,   1, 1, 3,  4,   0};
+static const uint8_t values[] = {2, 0, 0, 0, 7, 0, 0, 0, 9};
+static const uint8_t guards[] = {1, 1, 1, 1, 1};
+static const uint8_t started[] = {0, 15, 1, 0, 2, 0, 0, 0, 7, 0, 0, 0, 9, 0, 0, 0, 1};
+static const uint8_t ends[] = {0, 26, 1, 2, 3, 1, 0, 0, 0, 7, 1, 2, 1, 3, 4, 1, 0, 0, 0, 7, 2, 2, 0, 4, 3, 1, 2, 4};
+static const uint8_t stepped[] = {0, 15, 1, 0, 1, 0, 0, 0, 9, 1, 0, 0, 0, 7, 1, 0, 0};
+static const uint8_t finished[] = {0, 11, 1, 0, 1, 0, 0, 0, 9, 0, 0, 0, 0};
+static const uint8_t second_end[] = {1};
+
+static uint8_t out[KESHMIRUN_ROOM];
+
+static int wrote(uint64_t answer, const uint8_t *reply, size_t length) {
+    return KESHMIRUN_REFUSAL(answer) == 0 && KESHMIRUN_PLACE(answer) == 0 && KESHMIRUN_LENGTH(answer) == length && memcmp(out, reply, length) == 0;
+}
+
+static int refused(uint64_t answer, unsigned number, unsigned place) {
+    return KESHMIRUN_REFUSAL(answer) == number && KESHMIRUN_PLACE(answer) == place && KESHMIRUN_LENGTH(answer) == 0;
+}
+
+#define EVENT(marking) table, sizeof table, marking, sizeof marking
+#define HOLDS(test) if (!(test)) return __LINE__
+
+int main(void) {
+    HOLDS(check(table, sizeof table) == 0);
+    HOLDS(refused(check(table, sizeof table - 1), 1, 0));
+    HOLDS(wrote(start(table, sizeof table, values, sizeof values, out, sizeof out), started, sizeof started));
+    HOLDS(wrote(sheet(EVENT(started), guards, sizeof guards, out, sizeof out), ends, sizeof ends));
+    HOLDS(wrote(pick(EVENT(started), guards, sizeof guards, 5, out, KESHMIRUN_MOST_ENDS), second_end, sizeof second_end));
+    HOLDS(refused(pick(EVENT(started), guards, sizeof guards, 2, out, KESHMIRUN_MOST_ENDS), 13, 2));
+    HOLDS(wrote(pick(EVENT(started), guards, sizeof guards, KESHMIRUN_NO_NODE, out, KESHMIRUN_MOST_ENDS), (const uint8_t[]){0}, 1));
+    HOLDS(wrote(step(EVENT(started), guards, sizeof guards, second_end, sizeof second_end, out, sizeof out), stepped, sizeof stepped));
+    HOLDS(wrote(finish(EVENT(stepped), 5, values, 0, out, sizeof out), finished, sizeof finished));
+    return 0;
+}
