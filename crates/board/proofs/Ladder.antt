@@ -3,7 +3,6 @@ use Prim.Native.Nat.{ℕ, _≤_, _<_}
 use mathlib.Core.Path.{_≡_, refl, sym, ap, subst, _∙_}
 use mathlib.Core.Bool.{Bool, true, false, not, _&&_}
 use mathlib.Core.List.{List}
-use mathlib.Core.Option.{Option, none, some}
 use native.Mathlib.Omega.{arith}
 use lib.Dec.{leb}
 use lib.ListN.{length}
@@ -16,60 +15,40 @@ use Rattle.paper.specs.Marking.{Marking, marking, Good as GoodMarking}
 use Rattle.paper.specs.Offers.{Offer, first, elem, goesOver, guardsFine, offers, offersOn, ends, sizesFine}
 use Rattle.paper.specs.Choices.{Board, board, boardOf}
 use Rattle.paper.proofs.Bools.{and-true, and-both, and-never, iff}
-use Rattle.paper.proofs.Bytes.{Bytes}
-use Rattle.paper.proofs.Ladders.{no-good, same-good}
 use Rattle.paper.proofs.Members.{In, in-gather, gather-in, in-below, below-in}
 use Rattle.paper.proofs.Sameness.{elem-in, in-elem}
-use Rattle.paper.proofs.OneMarking.{read-is-good}
 use Rattle.table.specs.declared.Table.{Table}
 use Rattle.table.specs.Reading.{tableRead}
 use Rattle.table.proofs.Reading.{read-fine, read-good}
 use Rattle.marking.specs.declared.reading.MarkingAnswer.{MarkingAnswer}
-use Rattle.marking.specs.declared.reading.MarkingAnswer.the-variants.{Live, Ended, Refused as NoMarking}
+use Rattle.marking.specs.declared.reading.MarkingAnswer.the-variants.{Ended, Refused as NoMarking}
 use Rattle.rows.specs.Sets.{nth}
 use Rattle.rows.specs.Rows.{Rows, fine}
 use Rattle.flow.specs.Stages.{Input, Whole, onEdge}
 use Rattle.flow.specs.Struct.{rowsOf, Full}
 use Rattle.flow.proofs.Inputs.{good-flat}
-use Rattle.holding.specs.Holding.{NodesHeld, EdgesHeld, HeldRead}
+use Rattle.holding.specs.Holding.{HeldRead}
+use Rattle.holding.specs.TakenUp.{Held, Holding, LiveHeld}
+use Rattle.holding.proofs.TakenUp.{refused-read, ended-read}
 use Rattle.ends.specs.declared.EndsAnswer.{EndsAnswer}
 use Rattle.ends.specs.declared.EndsAnswer.the-variants.{Good, Refused}
 use Rattle.ends.specs.Ends.{Listed, Arranged}
 use Rattle.seating.specs.Seating.{Seated}
 use Rattle.flow.specs.declared.Offers.{Offers}
 use Rattle.board.specs.Starts.{Begun}
-use Rattle.board.specs.Reading.{Held, held, Seats, Holding, LiveHeld, Laid, BoardRead}
+use Rattle.board.specs.Reading.{Seats, Laid, BoardRead}
 use Rattle.board.proofs.StartLaws.{starts-are}
-
--- ---- rows 5 and 6: the answer of the marking's reader
-module _ (t b from kept runs tokens : List ℕ) where
-  refused-read : (o : Option Marking) (n p : ℕ) → HeldRead t b from kept runs tokens o (NoMarking n p) → (o ≡ none) × (n ≡ 5) × (p ≡ 0)
-  refused-read none n p h = (refl, cc h, cc h)
-  refused-read (some m) n p h = no-good (h .0)
-
-  ended-read : (o : Option Marking) → HeldRead t b from kept runs tokens o Ended → (m : Marking) × (o ≡ some m) × (m .ended ≡ true)
-  ended-read none h = no-good (sym h)
-  ended-read (some m) h = (m, refl, sym (same-good (h .0)))
-
-  live-read : (o : Option Marking) → marking t b ≡ o → HeldRead t b from kept runs tokens o Live
-      → LiveHeld t b (held from kept runs tokens)
-  live-read none e h = no-good (sym h)
-  live-read (some m) e h = record { current = m; is-read = e; live = sym (same-good (h .0)); holding = record { nodes-held = h .1; edges-held = h .2 } }
-
-  pub live-held : (r : MarkingAnswer) → r ≡ Live → HeldRead t b from kept runs tokens (marking t b) r
-      → LiveHeld t b (held from kept runs tokens)
-  live-held r e h = live-read (marking t b) refl (rw e at h)
 
 -- ---- the ladder
 module _ (t b g : List ℕ) {x : Table} (e : tableRead t ≡ good x) where
   module _ (from kept runs tokens : List ℕ) (r : MarkingAnswer) (h : HeldRead t b from kept runs tokens (marking t b) r) where
     pub board-5 : (n p : ℕ) → r ≡ NoMarking n p → board t b g ≡ refused n p
     unfolding board
-    board-5 n p q = let z = refused-read t b from kept runs tokens (marking t b) n p (rw q at h) in rw (read-fine t e, z .0, z .1, z .2)
+    board-5 n p q = let z = refused-read t b from kept runs tokens r h n p q in rw (read-fine t e, z .0, z .1, z .2)
 
     pub board-6 : r ≡ Ended → board t b g ≡ refused 6 0
     unfolding board boardOf
-    board-6 q = let z = ended-read t b from kept runs tokens (marking t b) (rw q at h) in rw (read-fine t e, z .1, z .2)
+    board-6 q = let z = ended-read t b from kept runs tokens r h q in rw (read-fine t e, z .1, z .2)
 
   module _ {y : Held} (l : LiveHeld t b y) where
     pub board-7 : guardsFine t g ≡ false → board t b g ≡ refused 7 0
@@ -151,6 +130,3 @@ begun-input t b e y codes values m ok h g = record {
   flat = good-flat t e;
   starts = λ j l c. starts-are t b (y .from) (y .kept) (y .tokens) codes values (y .runs) m ok (h .nodes-held) (h .edges-held) g j l (read-good t e .edge j l .source-fits);
 }
-
-pub live-good : (t b : List ℕ) (y : Held) (l : LiveHeld t b y) → Bytes b → GoodMarking t (l .current)
-live-good t b y l u = read-is-good t b (l .current) u (l .is-read) .0

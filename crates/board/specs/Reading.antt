@@ -2,13 +2,9 @@
 -- Assumes nothing.
 use Prim.Native.Nat.{ℕ, _≤_}
 use mathlib.Core.Path.{_≡_}
-use mathlib.Core.Bool.{false}
 use mathlib.Core.List.{List}
-use mathlib.Core.Option.{some}
 use lib.ListN.{length}
 use Rattle.paper.specs.Answers.{refused, good}
-use Rattle.paper.specs.Table.{nodes, edges}
-use Rattle.paper.specs.Marking.{Marking, marking}
 use Rattle.paper.specs.Offers.{Offer}
 use Rattle.paper.specs.Choices.{board, Board}
 use Rattle.flow.specs.declared.Offers.{Offers}
@@ -17,17 +13,7 @@ use Rattle.ends.specs.declared.EndsAnswer.{EndsAnswer}
 use Rattle.ends.specs.declared.EndsAnswer.the-variants.{Good, Refused}
 use Rattle.ends.specs.Ends.{Listed}
 use Rattle.seating.specs.Seating.{Seated}
-use Rattle.holding.specs.Holding.{NodesHeld, EdgesHeld}
-
--- the slices lent for a marking: where each stock's values stand in its bytes and how many they are, what runs, and the counts
-pub record Held : Type 0 where
-  pub from : List ℕ
-  pub kept : List ℕ
-  pub runs : List ℕ
-  pub tokens : List ℕ
-
-abbrev pub held : List ℕ → List ℕ → List ℕ → List ℕ → Held
-held f k r o = record { from = f; kept = k; runs = r; tokens = o }
+use Rattle.holding.specs.TakenUp.{Held, Holding}
 
 -- the slices lent for the ends in order, each a row of the offers, and for their paths in order, each in a block of 16 cells
 pub record Seats : Type 0 where
@@ -39,30 +25,12 @@ pub record Seats : Type 0 where
 abbrev pub seats : List ℕ → List ℕ → List ℕ → List ℕ → Seats
 seats e o l c = record { ends = e; order = o; lens = l; cells = c }
 
--- there is room for a marking, and for the ends
-pub record HeldRoom (t : List ℕ) (x : Held) : Type 0 where
-  pub froms : nodes t ≤ length (x .from)
-  pub kepts : nodes t ≤ length (x .kept)
-  pub runs-there : nodes t ≤ length (x .runs)
-  pub tokens-there : edges t ≤ length (x .tokens)
-
+-- there is room for the ends
 pub record SeatsRoom (s : Seats) : Type 0 where
   pub ends-room : 20 ≤ length (s .ends)
   pub order-room : 160 ≤ length (s .order)
   pub lens-room : 160 ≤ length (s .lens)
   pub cells-room : 2560 ≤ length (s .cells)
-
--- the slices hold the marking m, whose bytes are b
-pub record Holding (t b : List ℕ) (m : Marking) (x : Held) : Type 0 where
-  pub nodes-held : NodesHeld t m b (x .from) (x .kept) (x .runs) (nodes t)
-  pub edges-held : EdgesHeld t (m .tokens) (x .tokens) (edges t)
-
--- the bytes are a live marking, and the slices hold it
-pub record LiveHeld (t b : List ℕ) (x : Held) : Type 0 where
-  pub current : Marking
-  pub is-read : marking t b ≡ some current
-  pub live : current .ended ≡ false
-  pub holding : Holding t b current x
 
 -- the board of n ends
 pub record Laid (t b g : List ℕ) (o : Offers) (x : Held) (s : Seats) (n : ℕ) : Type 0 where

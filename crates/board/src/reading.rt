@@ -22,7 +22,8 @@ ghost use Rattle.ends.specs.declared.EndsAnswer.the-variants.{Refused};
 ghost use Rattle.rows.specs.Rows.{Ranges};
 ghost use Rattle.flow.specs.Stages.{Result, Whole, onEdge};
 ghost use Rattle.flow.specs.Struct.{rowsOf, Full};
-ghost use Rattle.board.specs.Reading.{held, seats, HeldRoom, SeatsRoom, Holding, LiveHeld, BoardRead};
+ghost use Rattle.holding.specs.TakenUp.{held, HeldRoom, Holding, LiveHeld};
+ghost use Rattle.board.specs.Reading.{seats, SeatsRoom, BoardRead};
 
 // What sheet, pick and step are asked about: all offers, and the number of ends or the refusal.
 pub struct Board {

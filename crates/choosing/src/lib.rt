@@ -5,6 +5,8 @@ ghost use mathlib.Core.List.{_++_};
 ghost use Prim.Native.Nat.{_^_, _≤_, _<_};
 ghost use lib.ListN.{length, drop};
 ghost use Rattle.paper.specs.Lists.{has};
+ghost use Rattle.paper.specs.Answers.{good};
+ghost use Rattle.paper.specs.Operations.{inRoom, Reply};
 ghost use Rattle.choosing.specs.Choice.{said, choiceRead, numbers};
 
 // The set that was read, or the refusal's number and its place.
@@ -54,7 +56,7 @@ pub fn read_choice(ks: &[u8], n: usize) -> ChoiceAnswer
 }
 
 // How many of n ends are taken: the bytes that the choice takes.
-pub fn choice_size(c: u32, n: usize) -> usize
+fn choice_size(c: u32, n: usize) -> usize
     requires { ⌜ n ≤ 20 ⌝ }
     ensures { λ r. ⌜ (r ≡ length (numbers c n)) × (r ≤ n) ⌝ }
 {
@@ -70,7 +72,7 @@ pub fn choice_size(c: u32, n: usize) -> usize
 }
 
 // The numbers of the taken ends, at the front of `out`. What stands behind them is left as it was.
-pub fn write_choice(c: u32, n: usize, out: &mut [u8])
+fn write_choice(c: u32, n: usize, out: &mut [u8])
     requires { ⌜ (n ≤ 20) × (length (numbers c n) ≤ length (now out)) ⌝ }
     ensures { λ _. ⌜ now (out .exit) ≡ numbers c n ++ drop (length (numbers c n)) (now (out .entry)) ⌝ }
 {
@@ -83,4 +85,17 @@ pub fn write_choice(c: u32, n: usize, out: &mut [u8])
         }
         k += 1;
     }
+}
+
+// The choice c of n ends, if the room is enough (row 17).
+pub fn tell(c: u32, n: usize, out: &mut [u8]) -> u64
+    requires { ⌜ n ≤ 20 ⌝ }
+    ensures { λ r. ⌜ Reply (inRoom (length (now (out .entry))) (good (numbers c n))) r (now (out .entry)) (now (out .exit)) ⌝ }
+{
+    let len = choice_size(c, n);
+    if out.len() < len {
+        return wire::pack(17, 0, 0);
+    }
+    write_choice(c, n, out);
+    wire::pack(0, 0, len)
 }

@@ -2,7 +2,5 @@
 pub mod Ladders
 pub mod Delivering
 pub mod Finishing
-pub mod Sheets
-pub mod Picks
+pub mod Requests
 pub mod PickSteps
-pub mod Steps

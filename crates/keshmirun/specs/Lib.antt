@@ -1,5 +1,4 @@
--- What start and finish share, what finish asks of an action, pick of a board, and what a step is made on.
+-- What start and finish share, what finish asks of an action, and what is asked about a board.
 pub mod Delivered
 pub mod Running
-pub mod Picking
-pub mod Stepping
+pub mod Asking

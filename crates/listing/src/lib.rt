@@ -1,11 +1,14 @@
 // Writing a sheet: its size first, then its bytes, front to back.
 // Ends and paths stand in lent columns, which hold what is read of them (`Measured`, `Shows`).
+use flow::Offers;
 ghost use mathlib.Core.Path.{_≡_};
 ghost use mathlib.Core.List.{List, [], _∷_, _++_};
 ghost use Prim.Native.Nat.{ℕ, _+_, _*_, _-_, _≤_, _<_};
 ghost use lib.ListN.{length, drop};
 ghost use lib.Seq.{sets};
 ghost use Rattle.paper.specs.Lists.{at, below, gather};
+ghost use Rattle.paper.specs.Answers.{good};
+ghost use Rattle.paper.specs.Operations.{inRoom, Reply};
 ghost use Rattle.wire.specs.Totals.{total};
 ghost use Rattle.listing.specs.Listing.{valueShown, pathShown, pathOf, pathTakes, endTakes, sheetTakes, endShown, sheetShown, Measured, Shows};
 
@@ -33,7 +36,7 @@ fn end_size(many: &[u8], rows: &[u8], order: &[u8], lens: &[u8], n: usize, k: us
 }
 
 // What the sheet of n ends takes.
-pub fn size(many: &[u8], rows: &[u8], order: &[u8], lens: &[u8], n: usize) -> usize
+fn size(many: &[u8], rows: &[u8], order: &[u8], lens: &[u8], n: usize) -> usize
     requires { ⌜ Measured (now many) (now rows) (now order) (now lens) n ⌝ }
     ensures { λ r. ⌜ (r ≡ sheetTakes (now (many .entry)) (now (rows .entry)) (now (order .entry)) (now (lens .entry)) n) × (4 ≤ r) × (r ≤ 41104) ⌝ }
 {
@@ -164,7 +167,7 @@ fn write_ends(
 }
 
 // The sheet of n ends, which takes `len` bytes, at the front of a slice.
-pub fn write(
+fn write(
     last: &[u8],
     has: &[u8],
     value: &[u32],
@@ -182,4 +185,41 @@ pub fn write(
 {
     wire::write_head(len, n as u8, out);
     write_ends(last, has, value, many, rows, order, lens, cells, n, out);
+}
+
+// The sheet that the columns show, if the room is enough (row 17).
+pub fn show(
+    offers: Offers,
+    ends: &[u8],
+    order: &[u8],
+    lens: &[u8],
+    cells: &[u8],
+    n: usize,
+    out: &mut [u8],
+) -> u64
+    requires { ⌜ Shows (offers .last) (offers .has) (offers .value) (offers .paths) (now ends) (now order) (now lens) (now cells) n ⌝ }
+    ensures { λ r. ⌜ Reply (inRoom (length (now (out .entry))) (good (sheetShown (offers .last) (offers .has) (offers .value) (offers .paths) (now (ends .entry)) (now (order .entry)) (now (lens .entry)) (now (cells .entry)) n))) r (now (out .entry)) (now (out .exit)) ⌝ }
+{
+    let many = offers.paths;
+    let len = size(&many, ends, order, lens, n);
+    if out.len() < len {
+        return wire::pack(17, 0, 0);
+    }
+    let last = offers.last;
+    let has = offers.has;
+    let value = offers.value;
+    write(
+        &last,
+        &has,
+        &value,
+        &many,
+        ends,
+        order,
+        lens,
+        cells,
+        n,
+        len,
+        out,
+    );
+    wire::pack(0, 0, len)
 }

@@ -11,6 +11,7 @@ ghost use Rattle.paper.specs.Lists.{at, below, gather, oneIf};
 ghost use Rattle.paper.specs.Table.{nodes, edges};
 ghost use Rattle.paper.specs.Marking.{Marking, encode};
 ghost use Rattle.paper.specs.Answers.{good};
+ghost use Rattle.paper.specs.Operations.{inRoom, Reply};
 ghost use Rattle.table.specs.Reading.{Spans, tableRead};
 ghost use Rattle.wire.specs.Totals.{total};
 ghost use Rattle.writing.specs.Writing.{Becomes, NodeSources, Sources, nodeSize, edgeSize, sizeOf, stockBytes, nodeBytes, edgeBytes};
@@ -72,7 +73,7 @@ fn edges_size(t: &[u8], table: Table) -> usize
 }
 
 // What the marking takes.
-pub fn size(t: &[u8], table: Table, kept: &[u8], more: &[u8]) -> usize
+fn size(t: &[u8], table: Table, kept: &[u8], more: &[u8]) -> usize
     requires { ⌜ (tableRead (now t) ≡ good table) × (nodes (now t) ≤ length (now kept)) × (nodes (now t) ≤ length (now more)) ⌝ }
     ensures { λ r. ⌜ (r ≡ sizeOf (now (t .entry)) (now (kept .entry)) (now (more .entry))) × (4 ≤ r) × (r ≤ 98036) ⌝ }
 {
@@ -194,8 +195,32 @@ fn write_edges(t: &[u8], table: Table, tokens: &[u8], out: &mut [u8], start: usi
     }
 }
 
-// The whole marking, at the front of `out`. What stands behind it is left as it was.
-pub fn write(
+// The whole marking, which takes `len` bytes, at the front of `out`. What stands behind it is left as it was.
+fn write(
+    t: &[u8],
+    table: Table,
+    state: u8,
+    len: usize,
+    old: &[u8],
+    from: &[usize],
+    kept: &[u8],
+    extra: &[u8],
+    place: &[usize],
+    more: &[u8],
+    runs: &[u8],
+    tokens: &[u8],
+    out: &mut [u8],
+)
+    requires { ⌜ (tableRead (now t) ≡ good table) × Sources (now t) (now old) (now from) (now kept) (now extra) (now place) (now more) (now runs) (now tokens) × (len ≡ sizeOf (now t) (now kept) (now more)) × (4 ≤ len) × (len ≤ length (now out)) ⌝ }
+    ensures { λ _. ⌜ ((m : Marking) → Becomes (now (t .entry)) m (now (old .entry)) (now (from .entry)) (now (kept .entry)) (now (extra .entry)) (now (place .entry)) (now (more .entry)) (now (runs .entry)) (now (tokens .entry)) → state ≡ oneIf (m .ended) → now (out .exit) ≡ encode (now (t .entry)) m ++ drop (length (encode (now (t .entry)) m)) (now (out .entry))) ⌝ }
+{
+    wire::write_head(len, state, out);
+    let next = write_nodes(t, table, old, from, kept, extra, place, more, runs, out);
+    write_edges(t, table, tokens, out, next);
+}
+
+// The marking that the slices describe, if the room is enough (row 17).
+pub fn reply(
     t: &[u8],
     table: Table,
     state: u8,
@@ -208,12 +233,28 @@ pub fn write(
     runs: &[u8],
     tokens: &[u8],
     out: &mut [u8],
-)
-    requires { ⌜ (tableRead (now t) ≡ good table) × Sources (now t) (now old) (now from) (now kept) (now extra) (now place) (now more) (now runs) (now tokens) × (sizeOf (now t) (now kept) (now more) ≤ length (now out)) ⌝ }
-    ensures { λ _. ⌜ ((m : Marking) → Becomes (now (t .entry)) m (now (old .entry)) (now (from .entry)) (now (kept .entry)) (now (extra .entry)) (now (place .entry)) (now (more .entry)) (now (runs .entry)) (now (tokens .entry)) → state ≡ oneIf (m .ended) → now (out .exit) ≡ encode (now (t .entry)) m ++ drop (length (encode (now (t .entry)) m)) (now (out .entry))) ⌝ }
+) -> u64
+    requires { ⌜ (tableRead (now t) ≡ good table) × Sources (now t) (now old) (now from) (now kept) (now extra) (now place) (now more) (now runs) (now tokens) ⌝ }
+    ensures { λ r. ⌜ ((m : Marking) → Becomes (now (t .entry)) m (now (old .entry)) (now (from .entry)) (now (kept .entry)) (now (extra .entry)) (now (place .entry)) (now (more .entry)) (now (runs .entry)) (now (tokens .entry)) → state ≡ oneIf (m .ended) → Reply (inRoom (length (now (out .entry))) (good (encode (now (t .entry)) m))) r (now (out .entry)) (now (out .exit))) ⌝ }
 {
     let len = size(t, table, kept, more);
-    wire::write_head(len, state, out);
-    let next = write_nodes(t, table, old, from, kept, extra, place, more, runs, out);
-    write_edges(t, table, tokens, out, next);
+    if out.len() < len {
+        return wire::pack(17, 0, 0);
+    }
+    write(
+        t,
+        table,
+        state,
+        len,
+        old,
+        from,
+        kept,
+        extra,
+        place,
+        more,
+        runs,
+        tokens,
+        out,
+    );
+    wire::pack(0, 0, len)
 }

@@ -1,10 +1,12 @@
 -- `finish`: rows 1 to 6 and 14, then what `conclude` leaves. Assumes nothing.
-use mathlib.Core.Path.{refl, sym, ap, _∙_}
+use mathlib.Core.Path.{_≡_, refl, sym, ap, _∙_}
+use lib.ListN.{length}
 use native.Mathlib.Omega.{arith}
 use borrow.Author.Tests.{not-true, not-false}
 use Rattle.table.specs.Reading.{said}
 use Rattle.table.proofs.Reading.{read-spans, most-nodes, most-edges}
-use Rattle.keshmirun.proofs.Finishing.{live-read, placed, running-node, finish-refused, finish-5, finish-6, finish-14, finish-delivers}
+use Rattle.holding.proofs.TakenUp.{live-read, lent-room}
+use Rattle.keshmirun.proofs.Finishing.{running-node, finish-refused, finish-5, finish-6, finish-14, finish-delivers}
 use borrow.Author.Needs.{needs}
 use Rattle.keshmirun.proofs.finish.Statement.{statement}
 use Rattle.keshmirun.proofs.finish.Tie as tie
@@ -22,23 +24,26 @@ pack-requires : tie.Need-pack-requires
 pack-requires c κs = search needs
 
 returns : tie.Need-returns
-returns c =
-    let a = c .before .before .before .before .before .before .before .before .before .args in
+returns c = let a = c .before .before .before .before .before .before .before .before .before .args in
     let e = sym (c .before .before .before .before .read .ensures) ∙ ap said (c .before .before .number .given .1) in
     record { answer = _; allowed = sym (finish-refused (a .table .now) (a .marking .now) (a .action) (a .values .now) _ _ e); reply = (c .pack .ensures, refl) }
 
-slice-aggregate-read : tie.Need-slice-aggregate-read
-slice-aggregate-read c = search needs
+slice-aggregate-take-up : tie.Need-slice-aggregate-take-up
+slice-aggregate-take-up c = search needs
 
-slice-aggregate-read-2 : tie.Need-slice-aggregate-read-2
-slice-aggregate-read-2 c = search needs
+slice-aggregate-take-up-2 : tie.Need-slice-aggregate-take-up-2
+slice-aggregate-take-up-2 c = search needs
 
-read-requires-2 : tie.Need-read-requires-2
-read-requires-2 c κs =
-    let a = c .before .before .before .before .before .before .before .before .before .before .args in
-    let t = a .table .now in
-    let e = sym (c .before .before .before .before .before .read .ensures) ∙ ap said (c .before .before .before .x .given .1) in
-    (e, most-nodes t e, most-edges t e)
+slice-aggregate-take-up-3 : tie.Need-slice-aggregate-take-up-3
+slice-aggregate-take-up-3 c = search needs
+
+slice-aggregate-take-up-4 : tie.Need-slice-aggregate-take-up-4
+slice-aggregate-take-up-4 c = search needs
+
+take-up-requires : tie.Need-take-up-requires
+take-up-requires c κs = let t = c .before .before .before .before .before .before .before .before .before .before .before .before .args .table .now in
+    let e = (sym (c .before .before .before .before .before .before .before .read .ensures) ∙ ap said (c .before .before .before .before .before .x .given .1)) in
+    (e, most-nodes t e, most-nodes t e, most-nodes t e, most-edges t e)
 
 enum-told : tie.Need-enum-told
 enum-told c = search needs
@@ -50,12 +55,10 @@ pack-requires-2 : tie.Need-pack-requires-2
 pack-requires-2 c κs = search needs
 
 returns-2 : tie.Need-returns-2
-returns-2 c =
-    let a = c .before .before .before .before .before .before .before .before .before .before .before .before .before .before .before .before .args in
-    let t = a .table .now in
-    let e = sym (c .before .before .before .before .before .before .before .before .before .before .before .read .ensures) ∙ ap said (c .before .before .before .before .before .before .before .before .before .x .given .1) in
-    let h = rw (c .before .enum-told2 .given .1) at (c .before .before .before .before .before .read2 .ensures) in
-    record { answer = _; allowed = sym (finish-6 t (a .marking .now) (a .action) (a .values .now) e (c .before .before .before .before .before .read2 .last .1 .1 .1 .0) (c .before .before .before .before .before .read2 .last .1 .1 .1 .1 .0) h); reply = (c .pack2 .ensures, refl) }
+returns-2 c = let a = c .before .before .before .before .before .before .before .before .before .before .before .before .before .before .before .before .before .before .before .before .args in
+    let u = c .before .before .before .before .before .before .before .take-up in
+    let e = (sym (c .before .before .before .before .before .before .before .before .before .before .before .before .before .before .before .read .ensures) ∙ ap said (c .before .before .before .before .before .before .before .before .before .before .before .before .before .x .given .1)) in
+    record { answer = _; allowed = sym (finish-6 (a .table .now) (a .marking .now) (a .action) (a .values .now) e (u .last .1 .1 .1 .0) (u .last .1 .1 .1 .1 .0) (u .last .1 .1 .1 .1 .1 .0) (u .last .1 .1 .1 .1 .1 .1 .0) (u .result) (u .ensures) (c .before .enum-told2 .given .1)); reply = (c .pack2 .ensures, refl) }
 
 enum-known-number-2 : tie.Need-enum-known-number-2
 enum-known-number-2 c = search needs
@@ -64,12 +67,10 @@ pack-requires-3 : tie.Need-pack-requires-3
 pack-requires-3 c κs = search needs
 
 returns-3 : tie.Need-returns-3
-returns-3 c =
-    let a = c .before .before .before .before .before .before .before .before .before .before .before .before .before .before .before .before .before .args in
-    let t = a .table .now in
-    let e = sym (c .before .before .before .before .before .before .before .before .before .before .before .before .read .ensures) ∙ ap said (c .before .before .before .before .before .before .before .before .before .before .x .given .1) in
-    let h = rw (c .before .before .number2 .given .1) at (c .before .before .before .before .before .before .read2 .ensures) in
-    record { answer = _; allowed = sym (finish-5 t (a .marking .now) (a .action) (a .values .now) e (c .before .before .before .before .before .before .read2 .last .1 .1 .1 .0) (c .before .before .before .before .before .before .read2 .last .1 .1 .1 .1 .0) _ _ h); reply = (c .pack3 .ensures, refl) }
+returns-3 c = let a = c .before .before .before .before .before .before .before .before .before .before .before .before .before .before .before .before .before .before .before .before .before .args in
+    let u = c .before .before .before .before .before .before .before .before .take-up in
+    let e = (sym (c .before .before .before .before .before .before .before .before .before .before .before .before .before .before .before .before .read .ensures) ∙ ap said (c .before .before .before .before .before .before .before .before .before .before .before .before .before .before .x .given .1)) in
+    record { answer = _; allowed = sym (finish-5 (a .table .now) (a .marking .now) (a .action) (a .values .now) e (u .last .1 .1 .1 .0) (u .last .1 .1 .1 .1 .0) (u .last .1 .1 .1 .1 .1 .0) (u .last .1 .1 .1 .1 .1 .1 .0) (u .result) (u .ensures) _ _ (c .before .before .number2 .given .1)); reply = (c .pack3 .ensures, refl) }
 
 wide-requires : tie.Need-wide-requires
 wide-requires c κs = search needs
@@ -78,24 +79,21 @@ slice-aggregate-is-running : tie.Need-slice-aggregate-is-running
 slice-aggregate-is-running c = search needs
 
 is-running-requires : tie.Need-is-running-requires
-is-running-requires c κs =
-    let a = c .before .before .before .before .before .before .before .before .before .before .before .before .before .before .before .before .before .args in
-    let t = a .table .now in
-    let e = sym (c .before .before .before .before .before .before .before .before .before .before .before .before .read .ensures) ∙ ap said (c .before .before .before .before .before .before .before .before .before .before .x .given .1) in
-    let l = live-read t (a .marking .now) (c .before .before .before .before .before .before .read2 .last .1 .1 .1 .0) (c .before .before .before .before .before .before .read2 .last .1 .1 .1 .1 .0) (c .before .before .before .before .before .before .read2 .result) (c .before .before .enum-told .given .1) (c .before .before .before .before .before .before .read2 .ensures) in
-    (e, placed t (a .marking .now) (read-spans t e) l (omega (arith, most-nodes t e, c .before .before .before .before .before .before .read2 .kept)))
+is-running-requires c κs = let t = c .before .before .before .before .before .before .before .before .before .before .before .before .before .before .before .before .before .before .before .before .before .args .table .now in
+    let e = (sym (c .before .before .before .before .before .before .before .before .before .before .before .before .before .before .before .before .read .ensures) ∙ ap said (c .before .before .before .before .before .before .before .before .before .before .before .before .before .before .x .given .1)) in
+    (read-spans t e, omega (arith, most-nodes t e, c .before .before .before .before .before .before .before .before .take-up .kept))
 
 pack-requires-4 : tie.Need-pack-requires-4
 pack-requires-4 c κs = search needs
 
 returns-4 : tie.Need-returns-4
-returns-4 c =
-    let a = c .before .before .before .before .before .before .before .before .before .before .before .before .before .before .before .before .before .before .before .before .args in
-    let t = a .table .now in
-    let e = sym (c .before .before .before .before .before .before .before .before .before .before .before .before .before .before .before .read .ensures) ∙ ap said (c .before .before .before .before .before .before .before .before .before .before .before .before .before .x .given .1) in
-    let l = live-read t (a .marking .now) (c .before .before .before .before .before .before .before .before .before .read2 .last .1 .1 .1 .0) (c .before .before .before .before .before .before .before .before .before .read2 .last .1 .1 .1 .1 .0) (c .before .before .before .before .before .before .before .before .before .read2 .result) (c .before .before .before .before .before .enum-told .given .1) (c .before .before .before .before .before .before .before .before .before .read2 .ensures) in
-    let n = sym (c .before .before .is-running .ensures (l .current) (l .nodes-noted)) ∙ not-true _ (c .before .if1 .taken) in
-    record { answer = _; allowed = sym (finish-14 t (a .marking .now) (a .action) (a .values .now) e l (rw (c .before .before .before .before .wide .ensures .0) at n)); reply = (c .pack4 .ensures, refl) }
+returns-4 c = let a = c .before .before .before .before .before .before .before .before .before .before .before .before .before .before .before .before .before .before .before .before .before .before .before .before .args in
+    let u = c .before .before .before .before .before .before .before .before .before .before .before .take-up in
+    let e = (sym (c .before .before .before .before .before .before .before .before .before .before .before .before .before .before .before .before .before .before .before .read .ensures) ∙ ap said (c .before .before .before .before .before .before .before .before .before .before .before .before .before .before .before .before .before .x .given .1)) in
+    let l = (live-read (a .table .now) (a .marking .now) (u .last .1 .1 .1 .0) (u .last .1 .1 .1 .1 .0) (u .last .1 .1 .1 .1 .1 .0) (u .last .1 .1 .1 .1 .1 .1 .0) (u .result) (u .ensures) (c .before .before .before .before .before .enum-told .given .1)) in
+    let n = sym (c .before .before .is-running .ensures (l .current) (l .holding .nodes-held .running)) ∙ not-true _ (c .before .if1 .taken) in
+    let w = c .before .before .before .before .wide .ensures .0 in
+    record { answer = _; allowed = sym (finish-14 (a .table .now) (a .marking .now) (a .action) (a .values .now) e l (rw w at n)); reply = (c .pack4 .ensures, refl) }
 
 slice-aggregate-conclude : tie.Need-slice-aggregate-conclude
 slice-aggregate-conclude c = search needs
@@ -103,27 +101,35 @@ slice-aggregate-conclude c = search needs
 slice-aggregate-conclude-2 : tie.Need-slice-aggregate-conclude-2
 slice-aggregate-conclude-2 c = search needs
 
+slice-aggregate-conclude-3 : tie.Need-slice-aggregate-conclude-3
+slice-aggregate-conclude-3 c = search needs
+
+slice-aggregate-conclude-4 : tie.Need-slice-aggregate-conclude-4
+slice-aggregate-conclude-4 c = search needs
+
 conclude-requires : tie.Need-conclude-requires
-conclude-requires c κs =
-    let a = c .before .before .before .before .before .before .before .before .before .before .before .before .before .before .before .before .before .before .before .before .before .before .args in
-    let t = a .table .now in
-    let e = sym (c .before .before .before .before .before .before .before .before .before .before .before .before .before .before .before .before .before .read .ensures) ∙ ap said (c .before .before .before .before .before .before .before .before .before .before .before .before .before .before .before .x .given .1) in
-    let l = live-read t (a .marking .now) (c .before .before .before .before .before .before .before .before .before .before .before .read2 .last .1 .1 .1 .0) (c .before .before .before .before .before .before .before .before .before .before .before .read2 .last .1 .1 .1 .1 .0) (c .before .before .before .before .before .before .before .before .before .before .before .read2 .result) (c .before .before .before .before .before .before .before .enum-told .given .1) (c .before .before .before .before .before .before .before .before .before .before .before .read2 .ensures) in
-    let n = sym (c .before .before .before .before .is-running .ensures (l .current) (l .nodes-noted)) ∙ not-false _ (c .before .before .before .if1 .left) in
-    (e, omega (arith, running-node t (l .current) _ n, read-spans t e .nodes-read), omega (arith, most-nodes t e, c .before .before .before .before .before .before .before .before .before .before .before .read2 .kept), omega (arith, most-edges t e, c .before .before .before .before .before .before .before .before .before .before .before .read2 .kept), l)
+conclude-requires c κs = let a = c .before .before .before .before .before .before .before .before .before .before .before .before .before .before .before .before .before .before .before .before .before .before .before .before .before .before .before .before .args in
+    let u = c .before .before .before .before .before .before .before .before .before .before .before .before .before .before .before .take-up in
+    let e = (sym (c .before .before .before .before .before .before .before .before .before .before .before .before .before .before .before .before .before .before .before .before .before .before .before .read .ensures) ∙ ap said (c .before .before .before .before .before .before .before .before .before .before .before .before .before .before .before .before .before .before .before .before .before .x .given .1)) in
+    let l = (live-read (a .table .now) (a .marking .now) (u .last .1 .1 .1 .0) (u .last .1 .1 .1 .1 .0) (u .last .1 .1 .1 .1 .1 .0) (u .last .1 .1 .1 .1 .1 .1 .0) (u .result) (u .ensures) (c .before .before .before .before .before .before .before .before .before .enum-told .given .1)) in
+    let f : length (u .last .1 .1 .1 .0) ≡ 48 = omega (arith, u .kept) in
+    let k : length (u .last .1 .1 .1 .1 .0) ≡ 48 = omega (arith, u .kept) in
+    let r : length (u .last .1 .1 .1 .1 .1 .0) ≡ 48 = omega (arith, u .kept) in
+    let o : length (u .last .1 .1 .1 .1 .1 .1 .0) ≡ 64 = omega (arith, u .kept) in
+    let n = sym (c .before .before .before .before .before .before .is-running .ensures (l .current) (l .holding .nodes-held .running)) ∙ not-false _ (c .before .before .before .before .before .if1 .left) in
+    (e, omega (arith, running-node (a .table .now) (l .current) (c .before .before .before .before .before .before .before .before .wide .result) n, read-spans (a .table .now) e .nodes-read), lent-room (a .table .now) e _ _ _ _ f k r o, l)
 
 same-length : tie.Need-same-length
 same-length c = search needs
 
 returns-5 : tie.Need-returns-5
-returns-5 c =
-    let a = c .before .before .before .before .before .before .before .before .before .before .before .before .before .before .before .before .before .before .before .before .before .before .before .before .before .args in
-    let t = a .table .now in
-    let e = sym (c .before .before .before .before .before .before .before .before .before .before .before .before .before .before .before .before .before .before .before .before .read .ensures) ∙ ap said (c .before .before .before .before .before .before .before .before .before .before .before .before .before .before .before .before .before .before .x .given .1) in
-    let l = live-read t (a .marking .now) (c .before .before .before .before .before .before .before .before .before .before .before .before .before .before .read2 .last .1 .1 .1 .0) (c .before .before .before .before .before .before .before .before .before .before .before .before .before .before .read2 .last .1 .1 .1 .1 .0) (c .before .before .before .before .before .before .before .before .before .before .before .before .before .before .read2 .result) (c .before .before .before .before .before .before .before .before .before .before .enum-told .given .1) (c .before .before .before .before .before .before .before .before .before .before .before .before .before .before .read2 .ensures) in
-    let n = sym (c .before .before .before .before .before .before .before .is-running .ensures (l .current) (l .nodes-noted)) ∙ not-false _ (c .before .before .before .before .before .before .if1 .left) in
-    let w = c .before .before .before .before .before .before .before .before .before .wide .ensures .0 in
-    record { answer = _; allowed = sym (finish-delivers t (a .marking .now) (a .action) (a .values .now) e l (rw w at n)); reply = rw w at (c .before .before .conclude .ensures l) }
+returns-5 c = let a = c .before .before .before .before .before .before .before .before .before .before .before .before .before .before .before .before .before .before .before .before .before .before .before .before .before .before .before .before .before .before .before .before .before .before .args in
+    let u = c .before .before .before .before .before .before .before .before .before .before .before .before .before .before .before .before .before .before .before .before .before .take-up in
+    let e = (sym (c .before .before .before .before .before .before .before .before .before .before .before .before .before .before .before .before .before .before .before .before .before .before .before .before .before .before .before .before .before .read .ensures) ∙ ap said (c .before .before .before .before .before .before .before .before .before .before .before .before .before .before .before .before .before .before .before .before .before .before .before .before .before .before .before .x .given .1)) in
+    let l = (live-read (a .table .now) (a .marking .now) (u .last .1 .1 .1 .0) (u .last .1 .1 .1 .1 .0) (u .last .1 .1 .1 .1 .1 .0) (u .last .1 .1 .1 .1 .1 .1 .0) (u .result) (u .ensures) (c .before .before .before .before .before .before .before .before .before .before .before .before .before .before .before .enum-told .given .1)) in
+    let n = sym (c .before .before .before .before .before .before .before .before .before .before .before .before .is-running .ensures (l .current) (l .holding .nodes-held .running)) ∙ not-false _ (c .before .before .before .before .before .before .before .before .before .before .before .if1 .left) in
+    let w = c .before .before .before .before .before .before .before .before .before .before .before .before .before .before .wide .ensures .0 in
+    record { answer = _; allowed = sym (finish-delivers (a .table .now) (a .marking .now) (a .action) (a .values .now) e l (rw w at n)); reply = rw w at (c .before .before .before .before .before .conclude .ensures l) }
 
 pub finish-spec : {M : Type 1} → statement M
 finish-spec =
@@ -134,9 +140,11 @@ finish-spec =
     enum-known-number
     pack-requires
     returns
-    slice-aggregate-read
-    slice-aggregate-read-2
-    read-requires-2
+    slice-aggregate-take-up
+    slice-aggregate-take-up-2
+    slice-aggregate-take-up-3
+    slice-aggregate-take-up-4
+    take-up-requires
     enum-told
     enum-told-2
     pack-requires-2
@@ -151,6 +159,8 @@ finish-spec =
     returns-4
     slice-aggregate-conclude
     slice-aggregate-conclude-2
+    slice-aggregate-conclude-3
+    slice-aggregate-conclude-4
     conclude-requires
     same-length
     returns-5)

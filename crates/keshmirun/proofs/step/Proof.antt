@@ -1,8 +1,9 @@
--- `step`: the table's refusals, then the board. Assumes nothing.
-use mathlib.Core.Path.{refl, sym, ap, _∙_}
+-- `step`: the table's refusals, then what is asked of the board. Assumes nothing.
+use mathlib.Core.Path.{sym, ap, _∙_}
+use mathlib.Core.List.{[]}
 use Rattle.table.specs.Reading.{said}
-use Rattle.keshmirun.proofs.Sheets.{board-refused}
-use Rattle.keshmirun.proofs.Steps.{step-refused}
+use Rattle.keshmirun.specs.declared.asking.Request.the-variants.{Step}
+use Rattle.keshmirun.proofs.Requests.{table-refused}
 use borrow.Author.Needs.{needs}
 use Rattle.keshmirun.proofs.step.Statement.{statement}
 use Rattle.keshmirun.proofs.step.Tie as tie
@@ -21,17 +22,16 @@ pack-requires c κs = search needs
 
 returns : tie.Need-returns
 returns c = let a = c .before .before .before .before .before .before .before .before .before .before .args in
-    let e = sym (c .before .before .before .before .read .ensures) ∙ ap said (c .before .before .number .given .1) in
-    record { answer = _; allowed = sym (step-refused (a .table .now) (a .marking .now) (a .guards .now) (a .choice .now) _ _ (board-refused (a .table .now) (a .marking .now) (a .guards .now) _ _ e)); reply = (c .pack .ensures, refl) }
+    table-refused (a .table .now) (a .marking .now) (a .guards .now) (a .choice .now) Step _ _ (c .pack .result) (a .out .now) (sym (c .before .before .before .before .read .ensures) ∙ ap said (c .before .before .number .given .1)) (c .pack .ensures)
 
-enter-requires : tie.Need-enter-requires
-enter-requires c κs = sym (c .before .before .before .before .read .ensures) ∙ ap said (c .before .before .x .given .1)
+ask-requires : tie.Need-ask-requires
+ask-requires c κs = sym (c .before .before .before .before .read .ensures) ∙ ap said (c .before .before .x .given .1)
 
 same-length : tie.Need-same-length
 same-length c = search needs
 
 returns-2 : tie.Need-returns-2
-returns-2 c = c .before .before .enter .ensures
+returns-2 c = search needs
 
 pub step-spec : {M : Type 1} → statement M
 step-spec =
@@ -42,6 +42,6 @@ step-spec =
     enum-known-number
     pack-requires
     returns
-    enter-requires
+    ask-requires
     same-length
     returns-2)

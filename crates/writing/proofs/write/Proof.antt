@@ -8,38 +8,33 @@ use borrow.Author.Needs.{needs}
 use Rattle.writing.proofs.write.Statement.{statement}
 use Rattle.writing.proofs.write.Tie as tie
 
-size-requires : tie.Need-size-requires
-size-requires c κs = search needs
-
 write-head-requires : tie.Need-write-head-requires
 write-head-requires c κs = search needs
 
 write-nodes-requires : tie.Need-write-nodes-requires
 unfolding sizeOf
-write-nodes-requires c κs = let p = c .before .before .before .before .before .before .before .before .before .before .before .before .before .before .before .before .pre in
-    (read-spans (c .before .before .before .before .before .before .before .before .before .before .before .before .before .before .before .before .args .t .now) (p .0), p .1 .of-nodes, omega (arith, p .2))
+write-nodes-requires c κs = let p = c .before .before .before .before .before .before .before .before .before .before .before .before .before .before .before .pre in (read-spans (c .before .before .before .before .before .before .before .before .before .before .before .before .before .before .before .args .t .now) (p .0), p .1 .of-nodes, omega (arith, p .2, p .4))
 
 write-edges-requires : tie.Need-write-edges-requires
 unfolding sizeOf
-write-edges-requires c κs = let p = c .before .before .before .before .before .before .before .before .before .before .before .before .before .before .before .before .before .before .before .before .pre in
-    let s = read-spans (c .before .before .before .before .before .before .before .before .before .before .before .before .before .before .before .before .before .before .before .before .args .t .now) (p .0) in
-    (p .0, omega (arith, p .1 .tokens-all), omega (arith, p .2, c .before .before .before .write-nodes .ensures .0))
+write-edges-requires c κs = let p = c .before .before .before .before .before .before .before .before .before .before .before .before .before .before .before .before .before .before .before .pre in
+    let s = read-spans (c .before .before .before .before .before .before .before .before .before .before .before .before .before .before .before .before .before .before .before .args .t .now) (p .0) in
+    (p .0, omega (arith, p .1 .tokens-all), omega (arith, p .2, p .4, c .before .before .before .write-nodes .ensures .0))
 
 same-length : tie.Need-same-length
 same-length c = search needs
 
 returns : tie.Need-returns
-returns c = let a = c .before .before .before .before .before .before .before .before .before .before .before .before .before .before .before .before .before .before .before .before .before .before .before .args in
-    let p = c .before .before .before .before .before .before .before .before .before .before .before .before .before .before .before .before .before .before .before .before .before .before .before .pre in
+returns c = let a = c .before .before .before .before .before .before .before .before .before .before .before .before .before .before .before .before .before .before .before .before .before .before .args in
+    let p = c .before .before .before .before .before .before .before .before .before .before .before .before .before .before .before .before .before .before .before .before .before .before .pre in
     let n = c .before .before .before .before .before .before .write-nodes .ensures in
     λ m b e. c .before .before .write-edges .ensures
-    ∙ rw (n .1, c .before .before .before .before .before .before .before .before .before .before .write-head .ensures) (write-is b (a .out .now) (c .before .before .before .before .before .before .before .before .before .before .before .before .size .result) (a .state) (c .before .before .before .before .before .before .write-nodes .result) (p .1 .of-nodes) (c .before .before .before .before .before .before .before .before .before .before .before .before .size .ensures .0) (n .0) e (p .2))
+    ∙ rw (n .1, c .before .before .before .before .before .before .before .before .before .before .write-head .ensures) (write-is b (a .out .now) (a .len) (a .state) (c .before .before .before .before .before .before .write-nodes .result) (p .1 .of-nodes) (p .2) (n .0) e (omega (arith, p .2, p .4)))
 
 pub write-spec : {M : Type 1} → statement M
 write-spec =
     tie.close
     (tie.spec
-    size-requires
     write-head-requires
     write-nodes-requires
     write-edges-requires

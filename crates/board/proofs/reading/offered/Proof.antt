@@ -5,7 +5,7 @@ use Rattle.paper.specs.Table.{edges}
 use Rattle.table.proofs.Reading.{read-spans, most-edges}
 use Rattle.flow.proofs.Inputs.{good-framed}
 use Rattle.ends.proofs.Columns.{ranges-more}
-use Rattle.board.specs.Reading.{held}
+use Rattle.holding.specs.TakenUp.{held}
 use Rattle.board.proofs.Ladder.{begun-input}
 use borrow.Author.Needs.{needs}
 use Rattle.board.proofs.reading.offered.Statement.{statement}

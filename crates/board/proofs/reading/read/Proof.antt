@@ -5,9 +5,11 @@ use lib.ListN.{length}
 use borrow.Author.Tests.{not-true, not-false}
 use Rattle.paper.specs.Table.{nodes, edges}
 use Rattle.table.proofs.Reading.{read-spans}
-use Rattle.board.specs.Reading.{held, seats}
+use Rattle.holding.specs.TakenUp.{held}
+use Rattle.holding.proofs.TakenUp.{live-read}
+use Rattle.board.specs.Reading.{seats}
 use Rattle.board.proofs.GuardLaws.{guards-long}
-use Rattle.board.proofs.Ladder.{board-5, board-6, board-7, live-held, refused-board}
+use Rattle.board.proofs.Ladder.{board-5, board-6, board-7, refused-board}
 use borrow.Author.Needs.{needs}
 use Rattle.board.proofs.reading.read.Statement.{statement}
 use Rattle.board.proofs.reading.read.Tie as tie
@@ -103,7 +105,7 @@ returns-3 c = let a = c .before .before .before .before .before .before .before 
     let t = a .t .now in
     let b = a .b .now in
     let g = a .g .now in
-    let l = live-held t b (c .before .before .before .before .before .before .before .before .before .before .before .before .before .take-up .last .1 .1 .1 .0) (c .before .before .before .before .before .before .before .before .before .before .before .before .before .take-up .last .1 .1 .1 .1 .0) (c .before .before .before .before .before .before .before .before .before .before .before .before .before .take-up .last .1 .1 .1 .1 .1 .0) (c .before .before .before .before .before .before .before .before .before .before .before .before .before .take-up .last .1 .1 .1 .1 .1 .1 .0) (c .before .before .before .before .before .before .before .before .before .before .before .before .before .take-up .result) (c .before .before .before .enum-told .given .1) (c .before .before .before .before .before .before .before .before .before .before .before .before .before .take-up .ensures) in
+    let l = live-read t b (c .before .before .before .before .before .before .before .before .before .before .before .before .before .take-up .last .1 .1 .1 .0) (c .before .before .before .before .before .before .before .before .before .before .before .before .before .take-up .last .1 .1 .1 .1 .0) (c .before .before .before .before .before .before .before .before .before .before .before .before .before .take-up .last .1 .1 .1 .1 .1 .0) (c .before .before .before .before .before .before .before .before .before .before .before .before .before .take-up .last .1 .1 .1 .1 .1 .1 .0) (c .before .before .before .before .before .before .before .before .before .before .before .before .before .take-up .result) (c .before .before .before .before .before .before .before .before .before .before .before .before .before .take-up .ensures) (c .before .before .before .enum-told .given .1) in
     refused-board t b g (c .refused3 .result .offers) (held (c .before .before .before .before .before .before .before .before .before .before .before .before .before .take-up .last .1 .1 .1 .0) (c .before .before .before .before .before .before .before .before .before .before .before .before .before .take-up .last .1 .1 .1 .1 .0) (c .before .before .before .before .before .before .before .before .before .before .before .before .before .take-up .last .1 .1 .1 .1 .1 .0) (c .before .before .before .before .before .before .before .before .before .before .before .before .before .take-up .last .1 .1 .1 .1 .1 .1 .0)) (seats (a .ends .now) (a .order .now) (a .lens .now) (a .cells .now)) (c .refused3 .result .answer) 7 0 (c .refused3 .ensures)
     (board-7 t b g (h .0) l (sym (c .before .before .guards-fine .ensures) ∙ not-true _ (c .before .if1 .taken)))
 
@@ -147,7 +149,7 @@ returns-4 c = let a = c .before .before .before .before .before .before .before 
     let t = a .t .now in
     let b = a .b .now in
     let g = a .g .now in
-    let l = live-held t b (c .before .before .before .before .before .before .before .before .before .before .before .before .before .before .before .before .before .before .before .before .before .before .before .before .before .before .before .before .take-up .last .1 .1 .1 .0) (c .before .before .before .before .before .before .before .before .before .before .before .before .before .before .before .before .before .before .before .before .before .before .before .before .before .before .before .before .take-up .last .1 .1 .1 .1 .0) (c .before .before .before .before .before .before .before .before .before .before .before .before .before .before .before .before .before .before .before .before .before .before .before .before .before .before .before .before .take-up .last .1 .1 .1 .1 .1 .0) (c .before .before .before .before .before .before .before .before .before .before .before .before .before .before .before .before .before .before .before .before .before .before .before .before .before .before .before .before .take-up .last .1 .1 .1 .1 .1 .1 .0) (c .before .before .before .before .before .before .before .before .before .before .before .before .before .before .before .before .before .before .before .before .before .before .before .before .before .before .before .before .take-up .result) (c .before .before .before .before .before .before .before .before .before .before .before .before .before .before .before .before .before .before .enum-told .given .1) (c .before .before .before .before .before .before .before .before .before .before .before .before .before .before .before .before .before .before .before .before .before .before .before .before .before .before .before .before .take-up .ensures) in
+    let l = live-read t b (c .before .before .before .before .before .before .before .before .before .before .before .before .before .before .before .before .before .before .before .before .before .before .before .before .before .before .before .before .take-up .last .1 .1 .1 .0) (c .before .before .before .before .before .before .before .before .before .before .before .before .before .before .before .before .before .before .before .before .before .before .before .before .before .before .before .before .take-up .last .1 .1 .1 .1 .0) (c .before .before .before .before .before .before .before .before .before .before .before .before .before .before .before .before .before .before .before .before .before .before .before .before .before .before .before .before .take-up .last .1 .1 .1 .1 .1 .0) (c .before .before .before .before .before .before .before .before .before .before .before .before .before .before .before .before .before .before .before .before .before .before .before .before .before .before .before .before .take-up .last .1 .1 .1 .1 .1 .1 .0) (c .before .before .before .before .before .before .before .before .before .before .before .before .before .before .before .before .before .before .before .before .before .before .before .before .before .before .before .before .take-up .result) (c .before .before .before .before .before .before .before .before .before .before .before .before .before .before .before .before .before .before .before .before .before .before .before .before .before .before .before .before .take-up .ensures) (c .before .before .before .before .before .before .before .before .before .before .before .before .before .before .before .before .before .before .enum-told .given .1) in
     c .before .before .before .before .before .before .before .before .seat .ensures (c .before .before .before .before .before .before .before .before .before .before .before .before .before .before .before .before .before .before .before .before .before .before .before .before .before .before .before .before .take-up .last .1 .1 .1 .1 .1 .0) l (sym (c .before .before .before .before .before .before .before .before .before .before .before .before .before .before .before .before .before .guards-fine .ensures) ∙ not-false _ (c .before .before .before .before .before .before .before .before .before .before .before .before .before .before .before .before .if1 .left))
 
 pub read-spec : {M : Type 1} → statement M

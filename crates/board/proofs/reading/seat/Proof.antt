@@ -4,8 +4,10 @@ use native.Mathlib.Omega.{arith}
 use lib.ListN.{length}
 use borrow.Author.Tests.{not-true, not-false}
 use Rattle.paper.proofs.Bytes.{Bytes}
-use Rattle.board.specs.Reading.{held, seats}
-use Rattle.board.proofs.Ladder.{board-8, board-read, refused-board, live-good}
+use Rattle.holding.specs.TakenUp.{held}
+use Rattle.holding.proofs.TakenUp.{live-good}
+use Rattle.board.specs.Reading.{seats}
+use Rattle.board.proofs.Ladder.{board-8, board-read, refused-board}
 use borrow.Author.Needs.{needs}
 use Rattle.board.proofs.reading.seat.Statement.{statement}
 use Rattle.board.proofs.reading.seat.Tie as tie

@@ -1,0 +1,60 @@
+-- Rows 5 and 6: the answer of a marking's reader taken apart, for board and finish. Assumes nothing.
+use Prim.Native.Nat.{ℕ}
+use mathlib.Core.Path.{_≡_, refl, sym}
+use mathlib.Core.Bool.{true}
+use mathlib.Core.List.{List}
+use mathlib.Core.Option.{Option, none, some}
+use native.Mathlib.Omega.{arith}
+use lib.ListN.{length}
+use Rattle.paper.specs.Limits.{limits}
+use Rattle.paper.specs.Answers.{good}
+use Rattle.paper.specs.Marking.{Marking, marking, Good}
+use Rattle.paper.proofs.Bytes.{Bytes}
+use Rattle.paper.proofs.Ladders.{no-good, same-good}
+use Rattle.paper.proofs.OneMarking.{read-is-good}
+use Rattle.table.specs.declared.Table.{Table}
+use Rattle.table.specs.Reading.{tableRead}
+use Rattle.table.proofs.Reading.{read-spans, most-nodes, most-edges}
+use Rattle.marking.specs.declared.reading.MarkingAnswer.{MarkingAnswer}
+use Rattle.marking.specs.declared.reading.MarkingAnswer.the-variants.{Live, Ended, Refused}
+use Rattle.holding.specs.Holding.{HeldRead}
+use Rattle.holding.specs.TakenUp.{Held, held, HeldRoom, LiveHeld}
+
+module _ (t b from kept runs tokens : List ℕ) where
+  by-refused : (o : Option Marking) (n p : ℕ) → HeldRead t b from kept runs tokens o (Refused n p) → (o ≡ none) × (n ≡ 5) × (p ≡ 0)
+  by-refused none n p h = (refl, cc h, cc h)
+  by-refused (some m) n p h = no-good (h .0)
+
+  by-ended : (o : Option Marking) → HeldRead t b from kept runs tokens o Ended → (m : Marking) × (o ≡ some m) × (m .ended ≡ true)
+  by-ended none h = no-good (sym h)
+  by-ended (some m) h = (m, refl, sym (same-good (h .0)))
+
+  by-live : (o : Option Marking) → marking t b ≡ o → HeldRead t b from kept runs tokens o Live → LiveHeld t b (held from kept runs tokens)
+  by-live none e h = no-good (sym h)
+  by-live (some m) e h = record { current = m; is-read = e; live = sym (same-good (h .0)); holding = record { nodes-held = h .1; edges-held = h .2 } }
+
+  module _ (r : MarkingAnswer) (h : HeldRead t b from kept runs tokens (marking t b) r) where
+    pub refused-read : (n p : ℕ) → r ≡ Refused n p → (marking t b ≡ none) × (n ≡ 5) × (p ≡ 0)
+    refused-read n p e = by-refused (marking t b) n p (rw e at h)
+
+    pub ended-read : r ≡ Ended → (m : Marking) × (marking t b ≡ some m) × (m .ended ≡ true)
+    ended-read e = by-ended (marking t b) (rw e at h)
+
+    pub live-read : r ≡ Live → LiveHeld t b (held from kept runs tokens)
+    live-read e = by-live (marking t b) refl (rw e at h)
+
+pub live-good : (t b : List ℕ) (y : Held) (l : LiveHeld t b y) → Bytes b → Good t (l .current)
+live-good t b y l u = read-is-good t b (l .current) u (l .is-read) .0
+
+-- the rooms that an operation lends are enough
+pub lent-room : (t : List ℕ) {y : Table} → tableRead t ≡ good y → (f k r o : List ℕ) → length f ≡ 48 → length k ≡ 48 → length r ≡ 48 → length o ≡ 64 → HeldRoom t (held f k r o)
+lent-room t e f k r o a b c d =
+    let s = read-spans t e in
+    let n = most-nodes t e in
+    let m = most-edges t e in
+    record {
+      froms = omega (arith, s .nodes-read);
+      kepts = omega (arith, s .nodes-read);
+      runs-there = omega (arith, s .nodes-read);
+      tokens-there = omega (arith, s .edges-read);
+    }

@@ -1,0 +1,92 @@
+-- What sheet, pick and step answer of a board that was read: its refusals, and what each function leaves. Assumes nothing.
+use mathlib.Core.Path.{_≡_, refl, sym}
+use mathlib.Core.List.{List}
+use Prim.Native.Nat.{ℕ, _≤_}
+use native.Mathlib.Omega.{arith}
+use lib.ListN.{length}
+use Rattle.paper.specs.Answers.{Answer, refused, good, _>>=_}
+use Rattle.paper.specs.Choices.{board}
+use Rattle.paper.specs.Operations.{sheet, sheetBytes, step, PickOn, Pick, packed, inRoom, Reply, Leaves, Only}
+use Rattle.table.specs.Reading.{tableRead}
+use Rattle.flow.specs.declared.Offers.{Offers}
+use Rattle.holding.specs.TakenUp.{Held}
+use Rattle.ends.specs.declared.EndsAnswer.{EndsAnswer}
+use Rattle.ends.specs.declared.EndsAnswer.the-variants.{Good, Refused}
+use Rattle.board.specs.Reading.{Seats, SeatsRoom, Laid}
+use Rattle.board.proofs.BoardLaws.{board-refused, read-refusal, read-laid, laid-edges}
+use Rattle.listing.specs.Listing.{Shows, sheetShown}
+use Rattle.listing.proofs.Meaning.{sheet-shown, listed-measured}
+use Rattle.picking.specs.Picking.{Pickable}
+use Rattle.stepping.specs.Stepping.{chosen}
+use Rattle.keshmirun.specs.declared.asking.Request.{Request}
+use Rattle.keshmirun.specs.declared.asking.Request.the-variants.{Sheet, Pick as PickFor, Step}
+use Rattle.keshmirun.specs.Asking.{Asked, Read}
+
+module _ (t b g ks : List ℕ) where
+  -- ---- rows 1 to 8
+  refused-allowed : (q : Request) (n p : ℕ) → board t b g ≡ refused n p → Asked q t b g ks (refused n p)
+  unfolding sheet Pick step
+  refused-allowed Sheet n p e = sym (rw e)
+  refused-allowed (PickFor i) n p e = rw e refl
+  refused-allowed Step n p e = sym (rw e)
+
+  pub asked-refused : (q : Request) (n p w : ℕ) (out : List ℕ) → board t b g ≡ refused n p → w ≡ packed n p 0 → Leaves (Asked q t b g ks) w out out
+  asked-refused q n p w out e h = record { answer = refused n p; allowed = refused-allowed q n p e; reply = (h, refl) }
+
+  pub table-refused : (q : Request) (n p w : ℕ) (out : List ℕ) → tableRead t ≡ refused n p → w ≡ packed n p 0 → Leaves (Asked q t b g ks) w out out
+  table-refused q n p w out e h = asked-refused q n p w out (board-refused t b g n p e) h
+
+  -- ---- on a board
+  module _ {o : Offers} {x : Held} {s : Seats} {n : ℕ} (l : Laid t b g o x s n) (q : Request) (w : ℕ) (out after : List ℕ) where
+    pub sheet-leaves : q ≡ Sheet → 2560 ≤ length (s .cells)
+        → Reply (inRoom (length out) (good (sheetShown (o .last) (o .has) (o .value) (o .paths) (s .ends) (s .order) (s .lens) (s .cells) n))) w out after
+        → Leaves (Asked q t b g ks) w out after
+    unfolding sheet
+    sheet-leaves e room h =
+        rw e
+        (record {
+          answer = good (sheetShown (o .last) (o .has) (o .value) (o .paths) (s .ends) (s .order) (s .lens) (s .cells) n);
+          allowed = sym (rw (l .is-board, sheet-shown t o (l .trees) (l .on .allEnds) (s .ends) (s .order) (s .lens) (s .cells) n room (l .seated .holds-ts) (l .listed)));
+          reply = h;
+        })
+
+    pub pick-leaves : (i : ℕ) → q ≡ PickFor i → Leaves (PickOn (l .on) i) w out after → Leaves (Asked q t b g ks) w out after
+    unfolding Pick
+    pick-leaves i e h = rw e (record { answer = h .answer; allowed = rw (l .is-board) (h .allowed); reply = h .reply })
+
+    pub step-leaves : q ≡ Step → Reply (inRoom (length out) (chosen t (l .on) ks)) w out after → Leaves (Asked q t b g ks) w out after
+    unfolding step chosen
+    step-leaves e h = rw e (record { answer = chosen t (l .on) ks; allowed = sym (rw (l .is-board)); reply = h })
+
+-- ---- what the board's reader answered, taken apart
+module _ {t b : List ℕ} {o : Offers} {x : Held} {s : Seats} {r : EndsAnswer} (y : Read t b o x s r) where
+  pub read-refused : (ks : List ℕ) (q : Request) (n p w : ℕ) (out : List ℕ) → r ≡ Refused n p → w ≡ packed n p 0 → Leaves (Asked q t b (y .guards) ks) w out out
+  read-refused ks q n p w out e h = asked-refused t b (y .guards) ks q n p w out (read-refusal t b (y .guards) o x s r (y .is-read) n p e) h
+
+  pub laid-in : (n : ℕ) → r ≡ Good n → Laid t b (y .guards) o x s n
+  laid-in n e = read-laid t b (y .guards) o x s r (y .is-read) n e
+
+-- ---- what is lent
+module _ {t b g : List ℕ} {o : Offers} {x : Held} {s : Seats} {n : ℕ} (l : Laid t b g o x s n) (r : SeatsRoom s) where
+  pub laid-shows : Shows (o .last) (o .has) (o .value) (o .paths) (s .ends) (s .order) (s .lens) (s .cells) n
+  laid-shows = record {
+    measured =
+        listed-measured t o (l .trees) (l .on .allEnds) (s .ends) (s .order) (s .lens) (s .cells) n (r .cells-room) (l .seated .holds-ts) (l .listed)
+        (omega (arith, l .seated .few, r .ends-room)) (omega (arith, l .full .paths-full)) (r .order-room) (r .lens-room);
+    lasts = omega (arith, l .full .lasts-full);
+    flags = omega (arith, l .full .haves-full);
+    values = omega (arith, l .full .values-full);
+    cells-there = r .cells-room;
+  }
+
+  pub laid-pickable : Pickable t o (s .ends) n
+  laid-pickable = record {
+    full = l .full;
+    few-rows = l .seated .holds-ts .fits;
+    few = l .seated .few;
+    rowed = record {
+      many = omega (arith, l .seated .few, r .ends-room);
+      each-inside = λ k m. omega (arith, l .seated .inside k m, l .seated .holds-ts .count-is, l .seated .holds-ts .fits);
+    };
+    edges-inside = laid-edges l;
+  }

@@ -1,0 +1,120 @@
+// What is asked about a board, by sheet, pick and step: the board is read once, for whichever of them asks.
+// The table's bytes were read as a table.
+use board::Board;
+use ends::EndsAnswer;
+use table::Table;
+ghost use mathlib.Core.Path.{_≡_};
+ghost use Rattle.paper.specs.Answers.{good};
+ghost use Rattle.paper.specs.Operations.{Leaves};
+ghost use Rattle.table.specs.Reading.{tableRead};
+ghost use Rattle.holding.specs.TakenUp.{held, HeldRoom};
+ghost use Rattle.board.specs.Reading.{seats, SeatsRoom};
+ghost use Rattle.keshmirun.specs.Asking.{Asked, Read};
+
+// The sheet, the pick for a node, or the step by a choice.
+pub enum Request {
+    Sheet,
+    Pick(u8),
+    Step,
+}
+
+// What the board's reader refused, or the answer.
+fn respond(
+    t: &[u8],
+    table: Table,
+    b: &[u8],
+    request: Request,
+    choice: &[u8],
+    board: Board,
+    from: &mut [usize],
+    kept: &mut [u8],
+    runs: &mut [u8],
+    tokens: &mut [u8],
+    ends: &[u8],
+    order: &[u8],
+    lens: &[u8],
+    cells: &[u8],
+    out: &mut [u8],
+) -> u64
+    requires { ⌜ (tableRead (now t) ≡ good table) × HeldRoom (now t) (held (now from) (now kept) (now runs) (now tokens)) × SeatsRoom (seats (now ends) (now order) (now lens) (now cells)) × Read (now t) (now b) (board .offers) (held (now from) (now kept) (now runs) (now tokens)) (seats (now ends) (now order) (now lens) (now cells)) (board .answer) ⌝ }
+    ensures { λ r. ⌜ ((y : Read (now (t .entry)) (now (b .entry)) (board .offers) (held (now (from .entry)) (now (kept .entry)) (now (runs .entry)) (now (tokens .entry))) (seats (now (ends .entry)) (now (order .entry)) (now (lens .entry)) (now (cells .entry))) (board .answer)) → Leaves (Asked request (now (t .entry)) (now (b .entry)) (y .guards) (now (choice .entry))) r (now (out .entry)) (now (out .exit))) ⌝ }
+{
+    let answer = board.answer;
+    let n = match answer {
+        EndsAnswer::Good(n) => n,
+        EndsAnswer::Refused(number, place) => return wire::pack(number, place, 0),
+    };
+    let offers = board.offers;
+    match request {
+        Request::Sheet => listing::show(offers, ends, order, lens, cells, n, out),
+        Request::Pick(node) => picking::pick(t, table, offers, ends, n, runs, kept, node, out),
+        Request::Step => stepping::step(
+            t,
+            table,
+            b,
+            choice,
+            offers,
+            ends,
+            n,
+            from,
+            kept,
+            runs,
+            tokens,
+            out,
+        ),
+    }
+}
+
+// The board of a marking and guards is read, and the request answered.
+pub fn ask(
+    t: &[u8],
+    table: Table,
+    b: &[u8],
+    g: &[u8],
+    request: Request,
+    choice: &[u8],
+    out: &mut [u8],
+) -> u64
+    requires { ⌜ tableRead (now t) ≡ good table ⌝ }
+    ensures { λ r. ⌜ Leaves (Asked request (now (t .entry)) (now (b .entry)) (now (g .entry)) (now (choice .entry))) r (now (out .entry)) (now (out .exit)) ⌝ }
+{
+    let mut from = [0usize; Table::MOST_NODES];
+    let mut kept = [0u8; Table::MOST_NODES];
+    let mut runs = [0u8; Table::MOST_NODES];
+    let mut tokens = [0u8; Table::MOST_EDGES];
+    let mut ends = [0u8; 20];
+    let mut order = [0u8; 160];
+    let mut lens = [0u8; 160];
+    let mut cells = [0u8; 2560];
+    let board = board::read(
+        t,
+        table,
+        b,
+        g,
+        &mut from,
+        &mut kept,
+        &mut runs,
+        &mut tokens,
+        &mut ends,
+        &mut order,
+        &mut lens,
+        &mut cells,
+    );
+    respond(
+        t,
+        table,
+        b,
+        request,
+        choice,
+        board,
+        &mut from,
+        &mut kept,
+        &mut runs,
+        &mut tokens,
+        &ends,
+        &order,
+        &lens,
+        &cells,
+        out,
+    )
+}

@@ -1,0 +1,86 @@
+-- What pick answers of what the search found on a board, and what the search is lent. Assumes nothing.
+use mathlib.Core.Path.{_≡_, refl}
+use mathlib.Core.Bool.{true, false}
+use mathlib.Core.List.{List}
+use Prim.Native.Nat.{ℕ, _^_, _≤_, _<_}
+use native.Mathlib.Omega.{arith}
+use lib.ListN.{length}
+use Rattle.paper.specs.Lists.{at}
+use Rattle.paper.specs.Answers.{Answer, refused, good}
+use Rattle.paper.specs.Table.{nodes, edges, upper}
+use Rattle.paper.specs.Offers.{Offer}
+use Rattle.paper.specs.Choices.{Board, howMany, acceptable, FirstOf}
+use Rattle.paper.specs.Operations.{named, wanted, PickOn, packed, inRoom, Reply, Leaves}
+use Rattle.paper.proofs.Bools.{never}
+use Rattle.paper.proofs.EmptyChoice.{empty-acceptable}
+use Rattle.paper.proofs.Picks.{searchedOn, search-picks}
+use Rattle.table.specs.declared.Table.{Table}
+use Rattle.table.specs.Reading.{tableRead}
+use Rattle.table.proofs.Reading.{read-spans}
+use Rattle.flow.specs.declared.Offers.{Offers}
+use Rattle.net.specs.declared.Found.{Found}
+use Rattle.net.specs.declared.Found.the-variants.{Choice, Nothing}
+use Rattle.rows.specs.Rows.{Rows}
+use Rattle.seating.specs.Seating.{Rowed, Seated}
+use Rattle.rules.specs.Rules.{Lent, Answered}
+use Rattle.choosing.specs.Choice.{numbers}
+use Rattle.choosing.proofs.Laws.{taken-numbers}
+use Rattle.picking.specs.Picking.{Pickable}
+
+-- ---- on a board
+module _ (d : Board) (i : ℕ) (e : acceptable d 0 ≡ true) where
+  -- if no set is wanted, a node is named: with none named the empty choice is wanted
+  must-name : ((x : ℕ) → x < 2 ^ howMany d → wanted d i x ≡ false) → named i ≡ true
+  must-name h = by (searchedOn (good d) i) (search-picks d i (λ u. e))
+    where
+      by : (a : Answer (List ℕ)) → PickOn d i a → named i ≡ true
+      by (refused k p) s = s .2 .is-named
+      by (good ks) s = never (wanted d i (s .0)) (s .1 .passes) (h (s .0) (s .1 .is-set))
+
+  -- row 13
+  pub leaves-none : (f : Found) → f ≡ Nothing → Answered (wanted d i) (howMany d) f → (w : ℕ) (out : List ℕ) → w ≡ packed 13 i 0 → Leaves (PickOn d i) w out out
+  unfolding Answered
+  leaves-none f q a w out h =
+      let n : (x : ℕ) → x < 2 ^ howMany d → wanted d i x ≡ false = rw q at a in
+      record { answer = refused 13 i; allowed = (refl, refl, record { is-named = must-name n; none-wanted = n }); reply = (h, refl) }
+
+-- the first choice, and its ends' numbers
+pub leaves-choice : (d : Board) (i : ℕ) (f : Found) (c n : ℕ) → f ≡ Choice c → n ≡ howMany d → Answered (wanted d i) (howMany d) f
+    → (w : ℕ) (out after : List ℕ) → Reply (inRoom (length out) (good (numbers c n))) w out after → Leaves (PickOn d i) w out after
+unfolding Answered
+leaves-choice d i f c n q e a w out after h =
+    let a : FirstOf (wanted d i) (howMany d) c = rw q at a in
+    record { answer = good (numbers c n); allowed = (c, a, taken-numbers d c n e); reply = h }
+
+-- ---- what is lent to the search
+module _ {t : List ℕ} {x : Table} (e : tableRead t ≡ good x) {o : Offers} {ends : List ℕ} {n : ℕ} (p : Pickable t o ends n) where
+  pub rowed-in : (xs : List ℕ) → length xs ≡ 64 → Rowed ends n (length xs)
+  rowed-in xs q = rw q (p .rowed)
+
+  pub edges-in : (k : ℕ) → k < n → at (o .last) (at ends k) < x .edges
+  edges-in k m = omega (arith, p .edges-inside k m, read-spans t e .edges-read)
+
+  pub lent : (edge target home runs stock : List ℕ) → n ≤ length edge → n ≤ length target → n ≤ length home → nodes t ≤ length runs → nodes t ≤ length stock
+      → Lent t x (o .node) (o .parents) (o .makers) (o .foes) ends edge target home runs stock (o .count) n
+  lent edge target home runs stock a b c r s =
+      let f = p .full in
+      let q = read-spans t e in
+      record {
+        good-table = e;
+        makers-of = rowed-in (o .makers) (f .makers-full);
+        foes-of = rowed-in (o .foes) (f .foes-full);
+        few-rows = p .few-rows;
+        row-nodes = omega (arith, p .few-rows, f .nodes-full);
+        row-parents = omega (arith, p .few-rows, f .parents-full);
+        few-ends = p .few;
+        end-edges = a;
+        end-targets = b;
+        end-homes = c;
+        node-runs = omega (arith, q .nodes-read);
+        node-stocks = omega (arith, q .nodes-read);
+      }
+
+-- ---- a board whose stocks are within upper
+pub fits-empty : {t : List ℕ} {d : Board} {y : Rows} {ts : List Offer} {ends : List ℕ} {n : ℕ} → Seated t d y ts ends n
+    → ((i : ℕ) → length (d .current .stock i) ≤ upper t i) → acceptable d 0 ≡ true
+fits-empty {d = d} s h = empty-acceptable d (rw (s .table-is) h)

@@ -1,0 +1,2 @@
+-- Laws of what the search found.
+pub mod Laws

@@ -1,0 +1,2 @@
+-- What the search for a choice is lent.
+pub mod Picking

@@ -1,0 +1,95 @@
+// pick on a board: the first acceptable choice, or the first that has an end of the named node, looked for and written.
+// The board's offers and ends are lent as they were read (`Pickable`).
+ghost use mathlib.Core.Path.{_≡_};
+ghost use mathlib.Core.Bool.{true};
+ghost use mathlib.Core.List.{List};
+ghost use Prim.Native.Nat.{ℕ, _≤_};
+ghost use lib.ListN.{length};
+ghost use Rattle.paper.specs.Answers.{good};
+ghost use Rattle.paper.specs.Table.{nodes, upper};
+ghost use Rattle.paper.specs.Offers.{Offer};
+ghost use Rattle.paper.specs.Choices.{Board, howMany, acceptable};
+ghost use Rattle.paper.specs.Operations.{Leaves, wanted, PickOn};
+ghost use Rattle.table.specs.Reading.{tableRead};
+ghost use Rattle.flow.specs.Struct.{rowsOf};
+ghost use Rattle.seating.specs.Seating.{Seated};
+ghost use Rattle.seating.proofs.Rules.{Told};
+ghost use Rattle.rules.specs.Rules.{Answered};
+ghost use Rattle.picking.specs.Picking.{Pickable};
+use flow::Offers;
+use net::Found;
+use table::Table;
+
+// The first acceptable choice that has an end of the node, if one is named.
+fn choose(
+    t: &[u8],
+    table: Table,
+    offers: Offers,
+    ends: &[u8],
+    n: usize,
+    runs: &[u8],
+    stock: &[u8],
+    node: u8,
+) -> Found
+    requires { ⌜ (tableRead (now t) ≡ good table) × Pickable (now t) offers (now ends) n × (nodes (now t) ≤ length (now runs)) × (nodes (now t) ≤ length (now stock)) ⌝ }
+    ensures { λ r. ⌜ ((d : Board) (ts : List Offer) → Seated (now (t .entry)) d (rowsOf offers) ts (now (ends .entry)) n → Told (now (t .entry)) (d .current) (now (runs .entry)) (now (stock .entry)) → ((i : ℕ) → length (d .current .stock i) ≤ upper (now (t .entry)) i) → Answered (wanted d node) (howMany d) r) ⌝ }
+{
+    let last = offers.last;
+    let mut edge = [0u8; 20];
+    let mut target = [0u8; 20];
+    let mut home = [0u8; 20];
+    seating::columns(t, table, &last, ends, n, &mut edge, &mut target, &mut home);
+    let want = rules::wanted(&target, &home, n, node);
+    let from = offers.node;
+    let parents = offers.parents;
+    let makers = offers.makers;
+    let foes = offers.foes;
+    let rows = offers.count;
+    rules::first(
+        t,
+        table,
+        &from,
+        &parents,
+        &makers,
+        &foes,
+        rows,
+        ends,
+        &edge,
+        &target,
+        &home,
+        n,
+        runs,
+        stock,
+        want,
+    )
+}
+
+// What pick answers of n ends, where `found` is what was looked for: row 13, or a choice.
+fn conclude(found: Found, n: usize, node: u8, out: &mut [u8]) -> u64
+    requires { ⌜ n ≤ 20 ⌝ }
+    ensures { λ r. ⌜ ((d : Board) → n ≡ howMany d → Answered (wanted d node) (howMany d) found → acceptable d 0 ≡ true → Leaves (PickOn d node) r (now (out .entry)) (now (out .exit))) ⌝ }
+{
+    match found {
+        Found::Nothing => wire::pack(13, node, 0),
+        Found::Choice(c) => choosing::tell(c, n, out),
+    }
+}
+
+// pick on a board of n ends.
+pub fn pick(
+    t: &[u8],
+    table: Table,
+    offers: Offers,
+    ends: &[u8],
+    n: usize,
+    runs: &[u8],
+    stock: &[u8],
+    node: u8,
+    out: &mut [u8],
+) -> u64
+    requires { ⌜ (tableRead (now t) ≡ good table) × Pickable (now t) offers (now ends) n × (nodes (now t) ≤ length (now runs)) × (nodes (now t) ≤ length (now stock)) ⌝ }
+    ensures { λ r. ⌜ ((d : Board) (ts : List Offer) → Seated (now (t .entry)) d (rowsOf offers) ts (now (ends .entry)) n → Told (now (t .entry)) (d .current) (now (runs .entry)) (now (stock .entry)) → ((i : ℕ) → length (d .current .stock i) ≤ upper (now (t .entry)) i) → Leaves (PickOn d node) r (now (out .entry)) (now (out .exit))) ⌝ }
+{
+    let found = choose(t, table, offers, ends, n, runs, stock, node);
+    conclude(found, n, node, out)
+}

@@ -1,0 +1,2 @@
+-- Laws of a step, row by row.
+pub mod Laws

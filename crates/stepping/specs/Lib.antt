@@ -1,0 +1,2 @@
+-- What a step is made on.
+pub mod Stepping

@@ -1,0 +1,218 @@
+// A step on a board that was read: the choice read and judged, and the marking that it makes written.
+// The marking is held in lent slices, the board's offers and ends are lent as they were read (`Standing`).
+use choosing::ChoiceAnswer;
+use flow::Offers;
+use judge::Judged;
+use table::Table;
+ghost use mathlib.Core.Path.{_≡_};
+ghost use Prim.Native.Nat.{_≤_};
+ghost use lib.ListN.{length};
+ghost use Rattle.paper.specs.Answers.{good, judgedBy};
+ghost use Rattle.paper.specs.Marking.{encode};
+ghost use Rattle.paper.specs.Choices.{next};
+ghost use Rattle.paper.specs.Operations.{Reply, inRoom};
+ghost use Rattle.table.specs.Reading.{tableRead};
+ghost use Rattle.flow.specs.Struct.{Full};
+ghost use Rattle.judge.specs.Judging.{said, rowRules, Lent as Judgeable};
+ghost use Rattle.holding.specs.TakenUp.{held, HeldRoom};
+ghost use Rattle.stepping.specs.Stepping.{settled, chosen, Standing, Seen};
+
+// Rows 10 to 12: what judging the choice c says, with the columns of the offers lent.
+fn judged(
+    t: &[u8],
+    table: Table,
+    offers: Offers,
+    ends: &[u8],
+    edge: &[u8],
+    target: &[u8],
+    home: &[u8],
+    n: usize,
+    runs: &[u8],
+    stock: &[u8],
+    c: u32,
+) -> Judged
+    requires { ⌜ Full offers × Judgeable (now t) (offers .node) (offers .parents) (offers .makers) (offers .foes) (now ends) (now edge) (now target) (now home) (now runs) (now stock) table (offers .count) n ⌝ }
+    ensures { λ r. ⌜ said r ≡ judgedBy (rowRules (now (t .entry)) (offers .node) (offers .parents) (offers .makers) (offers .foes) (now (ends .entry)) (now (edge .entry)) (now (target .entry)) (now (home .entry)) (now (runs .entry)) (now (stock .entry)) (offers .count) n) c ⌝ }
+{
+    let node = offers.node;
+    let parents = offers.parents;
+    let makers = offers.makers;
+    let foes = offers.foes;
+    judge::judge(
+        t,
+        table,
+        &node,
+        &parents,
+        &makers,
+        &foes,
+        offers.count,
+        ends,
+        edge,
+        target,
+        home,
+        n,
+        runs,
+        stock,
+        c,
+    )
+}
+
+// The choice c is taken, and the marking then is the reply.
+fn moved(
+    t: &[u8],
+    table: Table,
+    b: &[u8],
+    offers: Offers,
+    ends: &[u8],
+    target: &[u8],
+    home: &[u8],
+    n: usize,
+    c: u32,
+    from: &mut [usize],
+    kept: &mut [u8],
+    runs: &mut [u8],
+    tokens: &mut [u8],
+    out: &mut [u8],
+) -> u64
+    requires { ⌜ (tableRead (now t) ≡ good table) × HeldRoom (now t) (held (now from) (now kept) (now runs) (now tokens)) × Standing (now t) (now b) offers (held (now from) (now kept) (now runs) (now tokens)) (now ends) n × Seen (now t) offers (now ends) (now target) (now home) n ⌝ }
+    ensures { λ r. ⌜ ((s : Standing (now (t .entry)) (now (b .entry)) offers (held (now (from .entry)) (now (kept .entry)) (now (runs .entry)) (now (tokens .entry))) (now (ends .entry)) n) → Reply (inRoom (length (now (out .entry))) (good (encode (now (t .entry)) (next (s .on) c)))) r (now (out .entry)) (now (out .exit))) ⌝ }
+{
+    let last = offers.last;
+    let parents = offers.parents;
+    let makers = offers.makers;
+    let has = offers.has;
+    let value = offers.value;
+    let mut extra = [0u8; 80];
+    let mut place = [0usize; Table::MOST_NODES];
+    let mut more = [0u8; Table::MOST_NODES];
+    let state = moves::advance(
+        t,
+        table,
+        &last,
+        &parents,
+        &makers,
+        &has,
+        &value,
+        offers.count,
+        ends,
+        target,
+        home,
+        n,
+        c,
+        from,
+        kept,
+        runs,
+        tokens,
+        &mut extra,
+        &mut place,
+        &mut more,
+    );
+    writing::reply(
+        t,
+        table,
+        state,
+        b,
+        from,
+        kept,
+        &extra,
+        &place,
+        &more,
+        runs,
+        tokens,
+        out,
+    )
+}
+
+// The choice c is judged, and taken if no rule refuses it.
+fn settle(
+    t: &[u8],
+    table: Table,
+    b: &[u8],
+    offers: Offers,
+    ends: &[u8],
+    n: usize,
+    c: u32,
+    from: &mut [usize],
+    kept: &mut [u8],
+    runs: &mut [u8],
+    tokens: &mut [u8],
+    out: &mut [u8],
+) -> u64
+    requires { ⌜ (tableRead (now t) ≡ good table) × HeldRoom (now t) (held (now from) (now kept) (now runs) (now tokens)) × (20 ≤ length (now ends)) × Standing (now t) (now b) offers (held (now from) (now kept) (now runs) (now tokens)) (now ends) n ⌝ }
+    ensures { λ r. ⌜ ((s : Standing (now (t .entry)) (now (b .entry)) offers (held (now (from .entry)) (now (kept .entry)) (now (runs .entry)) (now (tokens .entry))) (now (ends .entry)) n) → Reply (inRoom (length (now (out .entry))) (settled (now (t .entry)) (s .on) c)) r (now (out .entry)) (now (out .exit))) ⌝ }
+{
+    let last = offers.last;
+    let mut edge = [0u8; 20];
+    let mut target = [0u8; 20];
+    let mut home = [0u8; 20];
+    seating::columns(t, table, &last, ends, n, &mut edge, &mut target, &mut home);
+    if let Judged::Refused(number, place) = judged(
+        t,
+        table,
+        offers,
+        ends,
+        &edge,
+        &target,
+        &home,
+        n,
+        runs,
+        kept,
+        c,
+    ) {
+        return wire::pack(number, place, 0);
+    }
+    moved(
+        t,
+        table,
+        b,
+        offers,
+        ends,
+        &target,
+        &home,
+        n,
+        c,
+        from,
+        kept,
+        runs,
+        tokens,
+        out,
+    )
+}
+
+// The choice among n ends is read (row 9), judged and taken.
+pub fn step(
+    t: &[u8],
+    table: Table,
+    b: &[u8],
+    choice: &[u8],
+    offers: Offers,
+    ends: &[u8],
+    n: usize,
+    from: &mut [usize],
+    kept: &mut [u8],
+    runs: &mut [u8],
+    tokens: &mut [u8],
+    out: &mut [u8],
+) -> u64
+    requires { ⌜ (tableRead (now t) ≡ good table) × HeldRoom (now t) (held (now from) (now kept) (now runs) (now tokens)) × (20 ≤ length (now ends)) × Standing (now t) (now b) offers (held (now from) (now kept) (now runs) (now tokens)) (now ends) n ⌝ }
+    ensures { λ r. ⌜ ((s : Standing (now (t .entry)) (now (b .entry)) offers (held (now (from .entry)) (now (kept .entry)) (now (runs .entry)) (now (tokens .entry))) (now (ends .entry)) n) → Reply (inRoom (length (now (out .entry))) (chosen (now (t .entry)) (s .on) (now (choice .entry)))) r (now (out .entry)) (now (out .exit))) ⌝ }
+{
+    let c = match choosing::read_choice(choice, n) {
+        ChoiceAnswer::Good(c) => c,
+        ChoiceAnswer::Refused(number, place) => return wire::pack(number, place, 0),
+    };
+    settle(
+        t,
+        table,
+        b,
+        offers,
+        ends,
+        n,
+        c,
+        from,
+        kept,
+        runs,
+        tokens,
+        out,
+    )
+}
