@@ -1,0 +1,3 @@
+-- What the proofs of several functions cite.
+pub mod Answers
+pub mod Places
