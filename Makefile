@@ -1,9 +1,14 @@
-# make: prove every crate and build the library for Rust and C.  make test: the gate.
-.PHONY: all test bench definitions
+# make: prove every crate, build the library for Rust and C, and print the sheet of the small event.  make test: the gate.
+.PHONY: all sheet test bench definitions
 
 all:
 	rt check
 	rt staticlib keshmirun
+	@tools/run sheet <crates/sheet/stdin
+
+# the sheet of any other input: make sheet <FILE
+sheet:
+	@tools/run sheet
 
 test:
 	tools/gate

@@ -1,0 +1,3 @@
+-- Laws of what the operations answer for a stream.
+pub mod Refusals
+pub mod Answers

@@ -1,0 +1,2 @@
+-- What is known of a stream once its sheet is there.
+pub mod Shown
