@@ -54,7 +54,7 @@ fn chain(n: usize)
 fn start(table: &[u8], marking: &mut [u8]) -> usize
     ensures { λ r. ⌜ r ≤ length (now (marking .exit)) ⌝ }
 {
-    telling::length_of(keshmirun::start(table, b"", marking))
+    wire::length_in(keshmirun::start(table, b"", marking))
 }
 
 // The sheet of a table at its start, every guard at 1. The first n bytes of the room are lent.
@@ -78,7 +78,7 @@ fn shown(bytes: &[u8], len: usize, n: usize, what: &[u8])
     let mut room = [0u8; 4096];
     let word = sheet(bytes, len, &mut room, 4096);
     telling::tried(n, what, word);
-    let written = telling::length_of(word);
+    let written = wire::length_in(word);
     if 0 < written {
         telling::number(b", ends ", wire::wide(room[3]));
         telling::number(b", length ", written);
@@ -125,7 +125,7 @@ fn finished(tokens: u8) {
     let mut out = [0u8; 4096];
     let word = finish(tokens, &mut out);
     telling::tried(wire::wide(tokens), b" on an edge before finish", word);
-    if 0 < telling::length_of(word) {
+    if 0 < wire::length_in(word) {
         telling::number(b", then ", wire::wide(out[6]));
     }
     telling::words(b"\n");
@@ -149,7 +149,7 @@ fn room(n: usize)
     let mut lent = [MARK; 4096];
     let word = sheet(&table, len, &mut lent, n);
     telling::tried(n, b" bytes of room for a sheet of 35", word);
-    let taken = telling::length_of(word);
+    let taken = wire::length_in(word);
     if untouched(&lent, taken) {
         telling::number(b", none changed from byte ", taken);
     }

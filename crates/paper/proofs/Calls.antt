@@ -1,9 +1,12 @@
--- What a call leaves: two answers that the same promise allows are equal, for every operation, and a word says its three numbers. Assumes nothing.
+-- What a call leaves: two answers that the same promise allows are equal, for every operation, and a word says its three numbers, of which the length is
+-- one that the room holds. Assumes nothing.
 use mathlib.Core.Path.{_≡_, refl, sym, ap, _∙_}
-use Prim.Native.Nat.{ℕ, _^_, _≤_, _<_}
+use Prim.Native.Nat.{ℕ, _%_, _^_, _≤_, _<_}
 use native.Mathlib.Omega.{arith}
+use mathlib.Core.Bool.{Bool, true, false, cond}
 use mathlib.Core.List.{List, [], _++_}
-use borrow.Author.Tests.{le-leb, lt-leb}
+use borrow.Author.Tests.{le-leb, lt-leb, leb-true}
+use lib.Dec.{leb}
 use lib.ListN.{length, drop}
 use Rattle.paper.specs.Answers.{Answer, refused, good}
 use Rattle.paper.specs.Operations.{check, start, sheet, step, finish, Pick, packed, inRoom, Reply, Leaves, Only}
@@ -87,3 +90,15 @@ same-answer (sheets t b g) = sheet-unique t b g
 same-answer (picks t b g n) = pick-call-unique t b g n
 same-answer (steps t b g ks) = step-unique t b g ks
 same-answer (finishes t b a vs) = finish-unique t b a vs
+
+-- ---- the length in a word lies within the room that was lent
+fitted : (k : Bool) (b before after : List ℕ) (w : ℕ) → leb (length b) (length before) ≡ k → Reply (cond k (good b) (refused 17 0)) w before after → w % 4294967296 ≤ length before
+fitted true b before after w e h = omega (arith, leb-true, h .0)
+fitted false b before after w e h = omega (arith, h .0)
+
+reply-fits : (a : Answer (List ℕ)) (w : ℕ) (before after : List ℕ) → Reply (inRoom (length before) a) w before after → w % 4294967296 ≤ length before
+reply-fits (refused n p) w before after h = omega (arith, h .0)
+reply-fits (good b) w before after h = fitted (leb (length b) (length before)) b before after w refl h
+
+pub length-fits : {Allowed : Answer (List ℕ) → Type 0} (w : ℕ) (before after : List ℕ) → Leaves Allowed w before after → w % 4294967296 ≤ length before
+length-fits w before after h = reply-fits (h .answer) w before after (h .reply)

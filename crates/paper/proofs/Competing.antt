@@ -5,14 +5,15 @@ use mathlib.Core.Bool.{Bool, true, false, not, _&&_, _||_}
 use mathlib.Core.Logic.{⊎-elim}
 use mathlib.Core.List.{List, _∷_, _++_}
 use mathlib.Core.Option.{Option}
-use lib.Dec.{eqb}
-use borrow.Author.Tests.{eqb-true, eq-eqb, not-true}
+use lib.Dec.{eqb, leb}
+use native.Mathlib.Omega.{arith}
+use borrow.Author.Tests.{eqb-true, eq-eqb, leb-true, lt-leb, not-true}
 use Rattle.paper.specs.Lists.{any}
 use Rattle.paper.specs.Limits.{limits}
 use Rattle.paper.specs.Answers.{good}
 use Rattle.paper.specs.Table.{edges, kind, source, into, chain, isControlNode, isDecision, isJoin, isObjectNode, tableFine}
 use Rattle.paper.specs.Marking.{Marking}
-use Rattle.paper.specs.Offers.{Offer, first, over, with, same, elem, parts, lastEdge, makers, origins, share, madeAt, ofOneStock, ofOneDecision, ofOneJoin, clash, compete, offersOn, offers}
+use Rattle.paper.specs.Offers.{Offer, first, over, with, same, elem, parts, lastEdge, makers, isFirst, origins, share, madeAt, ofOneStock, ofOneDecision, ofOneJoin, clash, compete, offersOn, offers}
 use Rattle.paper.proofs.Bools.{never, and-true, and-both, false-if, true-or-false, iff}
 use Rattle.paper.proofs.Members.{In, here, later, in-one, in-cons, in-append, append-left, append-right, any-in, in-any, any-none, none-any}
 use Rattle.paper.proofs.Sameness.{same-eq, eq-same, elem-in, in-elem}
@@ -104,6 +105,9 @@ makers-parts (with o p) k =
     ⊎-elim (λ l. let r = makers-parts o l in (r .0, append-left (parts p) (r .1), r .2))
     (λ l. let r = makers-parts p l in (r .0, append-right (parts o) (r .1), r .2)) (in-append (makers o) k)
 
+object-no-control : (k : ℕ) → isObjectNode k ≡ true → isControlNode k ≡ false
+object-no-control k h = rw (lt-leb 8 k (omega (arith, leb-true k 7 (and-true (leb 3 k) (leb k 7) h .1))))
+
 module _ (t : List ℕ) (goes : ℕ → Option ℕ → Bool) (m : Marking) where
   -- a chain of control nodes up to where a maker was made goes on to where the offer was made
   pub maker-chain : (n e k : ℕ) {o b : Offer} → In o (offersOn t goes m n e) → In b (makers o) → chain t k (madeAt t b) ≡ true → chain t k (source t e) ≡ true
@@ -123,6 +127,25 @@ module _ (t : List ℕ) (goes : ℕ → Option ℕ → Bool) (m : Marking) where
       by (starts c f) y ih = ap (λ z. chain t k (madeAt t z)) (sym (in-one y)) ∙ h
       by (extends {j = j} {o = o} c d i u) y ih = from c y (λ l. (j, i, ih j o u l))
       by (joins {w = w} c d v) y ih = from c y (λ l. let r = way-from t (offersOn t goes m n) makers with-makers v l in (r .0, r .2, ih (r .0) (r .1) (r .3) (r .4)))
+
+  -- a maker that was made at no control node is a first offer
+  maker-first : (n e : ℕ) {o b : Offer} → In o (offersOn t goes m n e) → In b (makers o) → isControlNode (kind t (madeAt t b)) ≡ false → isFirst b ≡ true
+  unfolding makers lastEdge
+  maker-first zero e x y h = absurd (on-none t goes m e x)
+  maker-first (suc n) e {b = b} x y h = by (on-view t goes m n e x) y (λ j p u v. maker-first n j u v h)
+    where
+      later-on : {o : Offer} → isControlNode (kind t (source t e)) ≡ true → In b (over o e ∷ makers o) → (In b (makers o) → isFirst b ≡ true) → isFirst b ≡ true
+      later-on c y f = ⊎-elim (λ q. never _ (ap (λ z. isControlNode (kind t (madeAt t z))) q ∙ c) h) f (in-cons y)
+
+      by : {o : Offer} → Handed t m (offersOn t goes m n) e o → In b (makers o)
+          → ((j : ℕ) (p : Offer) → In p (offersOn t goes m n j) → In b (makers p) → isFirst b ≡ true) → isFirst b ≡ true
+      by (starts c f) y ih = ap isFirst (in-one y)
+      by (extends {j = j} {o = o} c d i u) y ih = later-on c y (λ l. ih j o u l)
+      by (joins {w = w} c d v) y ih = later-on c y (λ l. let r = way-from t (offersOn t goes m n) makers with-makers v l in ih (r .0) (r .1) (r .3) (r .4))
+
+  -- "(a) first offers of the same object node": a maker made at an object node is a first offer, so the definition need not ask
+  pub stock-firsts : (n e : ℕ) {o a : Offer} → In o (offersOn t goes m n e) → In a (makers o) → isObjectNode (kind t (madeAt t a)) ≡ true → isFirst a ≡ true
+  stock-firsts n e {a = a} x y h = maker-first n e x y (object-no-control (kind t (madeAt t a)) h)
 
   -- a maker made at a control node from which its offer comes again: chains of any length
   round : (n e j : ℕ) {o b : Offer} → isControlNode (kind t (source t e)) ≡ true → In j (into t (source t e)) → In o (offersOn t goes m n j) → In b (makers o)

@@ -1,9 +1,7 @@
 // The program `sheet`: reads a table, a marking and guards, one after another, and prints the ends on offer and the pick, or the refusal.
 // `describe` makes the text, and its promise is the paper's (`Prints`); what is read and printed around it no contract can say.
-ghost use mathlib.Core.Path.{_≡_};
-ghost use Prim.Native.Nat.{ℕ, _≤_, _<_};
+ghost use Prim.Native.Nat.{_≤_};
 ghost use lib.ListN.{length, take};
-ghost use Rattle.paper.specs.Operations.{packed};
 ghost use Rattle.paper.specs.Program.{Prints};
 ghost use Rattle.sheet.specs.Shown.{Shown, PrintsPick, PrintsParts};
 use libc::STDIN_FILENO;
@@ -23,30 +21,6 @@ const MOST_TEXT: usize = 16464;
 // The node that pick is given where none is named.
 const NONE_NAMED: u8 = 255;
 
-// The weight of a refusal's number in a packed answer, 2 ^ 48, and of its place, 2 ^ 32. The length stands below them.
-const REFUSAL: u64 = 281474976710656;
-
-const PLACE: u64 = 4294967296;
-
-// The numbers of a packed answer.
-fn refusal_in(word: u64) -> usize
-    ensures { λ r. ⌜ ((n p len : ℕ) → p < 65536 → len < 4294967296 → word ≡ packed n p len → r ≡ n) ⌝ }
-{
-    (word / REFUSAL) as usize
-}
-
-fn place_in(word: u64) -> usize
-    ensures { λ r. ⌜ ((n p len : ℕ) → p < 65536 → len < 4294967296 → word ≡ packed n p len → r ≡ p) ⌝ }
-{
-    (word / PLACE % 65536) as usize
-}
-
-fn length_in(word: u64) -> usize
-    ensures { λ r. ⌜ ((n p len : ℕ) → len < 4294967296 → word ≡ packed n p len → r ≡ len) ⌝ }
-{
-    (word % PLACE) as usize
-}
-
 // Makes the text for a board whose sheet is there.
 fn describe_board(
     table: &[u8],
@@ -60,7 +34,7 @@ fn describe_board(
 {
     let mut choice = [0u8; MOST_PICK];
     let picked = keshmirun::pick(table, marking, guards, NONE_NAMED, &mut choice);
-    let n = length_in(picked);
+    let n = wire::length_in(picked);
     text::board_text(table, sheet, &choice[..n], out)
 }
 
@@ -71,11 +45,11 @@ fn describe_parts(table: &[u8], marking: &[u8], guards: &[u8], out: &mut [u8]) -
 {
     let mut sheet = [0u8; MOST_SHEET];
     let shown = keshmirun::sheet(table, marking, guards, &mut sheet);
-    let number = refusal_in(shown);
+    let number = wire::refusal_in(shown);
     if number != 0 {
-        return text::refusal_text(number, place_in(shown), out);
+        return text::refusal_text(number, wire::place_in(shown), out);
     }
-    let n = length_in(shown);
+    let n = wire::length_in(shown);
     describe_board(table, marking, guards, &sheet[..n], out)
 }
 

@@ -48,9 +48,9 @@ fn hex(bytes: &[u8]) {
 
 // The answer word and its reply as a line.
 fn line(word: u64, out: &[u8]) {
-    number(word / 281474976710656);
-    number(word / 4294967296 % 65536);
-    let n = (word % 4294967296) as usize;
+    number(wire::refusal_in(word) as u64);
+    number(wire::place_in(word) as u64);
+    let n = wire::length_in(word);
     if n == 0 {
         io::write_all(STDOUT_FILENO, b"-\n");
         return;

@@ -2,7 +2,7 @@
 // Assumes nothing.
 ghost use mathlib.Core.Path.{_≡_};
 ghost use mathlib.Core.List.{[], _∷_, _++_};
-ghost use Prim.Native.Nat.{_+_, _*_, _-_, _^_, _≤_, _<_};
+ghost use Prim.Native.Nat.{ℕ, _+_, _*_, _-_, _%_, _^_, _≤_, _<_};
 ghost use lib.ListN.{length, take, drop};
 ghost use lib.Seq.{sets};
 ghost use Rattle.paper.specs.Lists.{at};
@@ -86,4 +86,25 @@ pub fn pack(refusal: u8, place: u8, len: usize) -> u64
     ensures { λ r. ⌜ r ≡ packed refusal place len ⌝ }
 {
     (refusal as u64) * REFUSAL + (place as u64) * PLACE + (len as u64)
+}
+
+// The refusal's number in a packed answer.
+pub fn refusal_in(word: u64) -> usize
+    ensures { λ r. ⌜ ((n p len : ℕ) → p < 65536 → len < 4294967296 → word ≡ packed n p len → r ≡ n) ⌝ }
+{
+    (word / REFUSAL) as usize
+}
+
+// Its place.
+pub fn place_in(word: u64) -> usize
+    ensures { λ r. ⌜ ((n p len : ℕ) → p < 65536 → len < 4294967296 → word ≡ packed n p len → r ≡ p) ⌝ }
+{
+    (word / PLACE % 65536) as usize
+}
+
+// The length in a packed answer.
+pub fn length_in(word: u64) -> usize
+    ensures { λ r. ⌜ (r ≡ word % 4294967296) × ((n p len : ℕ) → len < 4294967296 → word ≡ packed n p len → r ≡ len) ⌝ }
+{
+    (word % PLACE) as usize
 }

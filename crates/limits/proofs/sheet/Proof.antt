@@ -1,7 +1,7 @@
 -- `sheet` hands on just the table, the marking that start wrote, and as many guards as the table has edges. Assumes nothing.
 use native.Mathlib.Omega.{arith}
 use lib.ListN.{length-take}
-use Rattle.limits.proofs.Answers.{length-fits}
+use Rattle.paper.proofs.Calls.{length-fits}
 use borrow.Author.Needs.{needs}
 use Rattle.limits.proofs.sheet.Statement.{statement}
 use Rattle.limits.proofs.sheet.Tie as tie

@@ -40,7 +40,7 @@ array-share-prefix-sheet : tie.Need-array-share-prefix-sheet
 array-share-prefix-sheet c = let a = c .before .before .before .before .before .before .before .before .before .before .args in
     let n = c .before .before .refusal-in in
     let x = c .before .before .before .before .sheet2 in
-    omega (arith, x .kept, sheet-told (a .table .now) (a .marking .now) (a .guards .now) (λ i. omega (arith, c .before .before .before .before .before .before .before .before .shared-slice-known2 .given i)) refl (x .ensures) (n .result) (c .length-in .result) (n .ensures) (c .length-in .ensures) (c .before .if1 .left) .1)
+    omega (arith, x .kept, sheet-told (a .table .now) (a .marking .now) (a .guards .now) (λ i. omega (arith, c .before .before .before .before .before .before .before .before .shared-slice-known2 .given i)) refl (x .ensures) (n .result) (c .length-in .result) (n .ensures) (c .length-in .ensures .1) (c .before .if1 .left) .1)
 
 slice-aggregate-describe-board : tie.Need-slice-aggregate-describe-board
 slice-aggregate-describe-board c = sym (length-take-le (c .before .length-in .result) (c .before .before .before .before .before .sheet2 .last .1 .1 .1 .0) (array-share-prefix-sheet (c .before)))
@@ -49,7 +49,7 @@ describe-board-requires : tie.Need-describe-board-requires
 describe-board-requires c κs = let a = c .before .before .before .before .before .before .before .before .before .before .before .before .args in
     let n = c .before .before .before .before .refusal-in in
     let l = c .before .before .length-in in
-    (sheet-told (a .table .now) (a .marking .now) (a .guards .now) (λ i. omega (arith, c .before .before .before .before .before .before .before .before .before .before .shared-slice-known2 .given i)) refl (c .before .before .before .before .before .before .sheet2 .ensures) (n .result) (l .result) (n .ensures) (l .ensures) (c .before .before .before .if1 .left) .0, c .before .before .before .before .before .before .before .before .before .before .before .before .pre)
+    (sheet-told (a .table .now) (a .marking .now) (a .guards .now) (λ i. omega (arith, c .before .before .before .before .before .before .before .before .before .before .shared-slice-known2 .given i)) refl (c .before .before .before .before .before .before .sheet2 .ensures) (n .result) (l .result) (n .ensures) (l .ensures .1) (c .before .before .before .if1 .left) .0, c .before .before .before .before .before .before .before .before .before .before .before .before .pre)
 
 same-length-2 : tie.Need-same-length-2
 same-length-2 c = search needs
