@@ -1,5 +1,6 @@
 //! The six operations timed beside the plain reading of the paper, in one run and build: the small event, a day of 41 nodes and 40 edges with 11 ends, the
-//! limits, and events on which joins or picks are hard. Prints medians in microseconds, and how many times as long the reading takes.
+//! limits, and events on which joins or picks are hard. Prints medians in microseconds, how many times as long the reading takes, and the bytes of stack
+//! that the engine's call takes.
 //!
 //!     cargo run --release --example bench
 
@@ -7,6 +8,8 @@
 mod events;
 #[path = "events/hard.rs"]
 mod hard;
+#[path = "events/stack.rs"]
+mod stack;
 
 use events::list;
 use hard::HARD;
@@ -36,7 +39,7 @@ struct Point {
 }
 
 fn main() -> Result<(), Refusal> {
-    println!("{:8} {:16} {:>11} {:>12} {:>9}", "", "", "engine us", "reading us", "ratio");
+    println!("{:8} {:16} {:>11} {:>12} {:>9} {:>7}", "", "", "engine us", "reading us", "ratio", "stack");
     for point in [small()?, day()?, limits()?] {
         all_six(&point);
     }
@@ -123,7 +126,7 @@ fn pick(name: &str, table: &[u8], marking: &[u8], guards: &[u8], node: u8) {
 }
 
 /// Times both, and prints a line. Both must say the same, where the reading comes to its answer.
-fn row(operation: &str, event: &str, engine: impl Fn(&mut [u8]) -> Result<usize, Refusal>, plain: impl Fn() -> Option<Answer>) {
+fn row(operation: &str, event: &str, engine: impl Fn(&mut [u8]) -> Result<usize, Refusal> + Sync, plain: impl Fn() -> Option<Answer>) {
     let mut out = [0; 4096];
     let answer = match engine(&mut out) {
         Ok(length) => Answer::Good(out[..length].to_vec()),
@@ -134,7 +137,12 @@ fn row(operation: &str, event: &str, engine: impl Fn(&mut [u8]) -> Result<usize,
     let fast = median(|| engine(&mut out).map_or_else(|refusal| usize::from(refusal.number), |length| length));
     let slow = median(|| usize::from(plain() == read));
     let bound = if read.is_none() { ">" } else { "" };
-    println!("{operation:8} {event:16} {fast:>11.2} {:>12} {:>9}", format!("{bound}{slow:.2}"), format!("{bound}{:.1}", slow / fast));
+    let deep = stack::taken(|| {
+        // what is lent stands elsewhere
+        let mut lent = vec![0; 4096];
+        let _ = engine(&mut lent);
+    });
+    println!("{operation:8} {event:16} {fast:>11.2} {:>12} {:>9} {deep:>7}", format!("{bound}{slow:.2}"), format!("{bound}{:.1}", slow / fast));
 }
 
 /// The median time of a call over some rounds, in microseconds. The calls of a round fill a while, and what they answer is used.
