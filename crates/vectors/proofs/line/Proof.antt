@@ -1,16 +1,24 @@
 -- `line` hands on just the reply. Assumes nothing.
-use Prim.Native.Nat.{_%_}
 use native.Mathlib.Omega.{arith}
 use lib.ListN.{length-take}
 use borrow.Author.Needs.{needs}
 use Rattle.vectors.proofs.line.Statement.{statement}
 use Rattle.vectors.proofs.line.Tie as tie
 
+refusal-in-requires : tie.Need-refusal-in-requires
+refusal-in-requires c κs = search needs
+
 number-requires : tie.Need-number-requires
 number-requires c κs = search needs
 
+place-in-requires : tie.Need-place-in-requires
+place-in-requires c κs = search needs
+
 number-requires-2 : tie.Need-number-requires-2
 number-requires-2 c κs = search needs
+
+length-in-requires : tie.Need-length-in-requires
+length-in-requires c κs = search needs
 
 slice-aggregate-write-all : tie.Need-slice-aggregate-write-all
 slice-aggregate-write-all c = search needs
@@ -22,7 +30,7 @@ returns : tie.Need-returns
 returns c = search needs
 
 slice-aggregate-hex : tie.Need-slice-aggregate-hex
-slice-aggregate-hex c = omega (arith, length-take (c .before .before .before .before .before .before .args .word % 4294967296) (c .before .before .before .before .before .before .args .out .now))
+slice-aggregate-hex c = omega (arith, length-take (c .before .before .before .length-in .result) (c .before .before .before .before .before .before .before .before .before .args .out .now))
 
 hex-requires : tie.Need-hex-requires
 hex-requires c κs = search needs
@@ -40,8 +48,11 @@ pub line-spec : {M : Type 1} → statement M
 line-spec =
     tie.close
     (tie.spec
+    refusal-in-requires
     number-requires
+    place-in-requires
     number-requires-2
+    length-in-requires
     slice-aggregate-write-all
     write-all-requires
     returns
