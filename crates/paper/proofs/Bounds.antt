@@ -33,6 +33,10 @@ module _ (n : ℕ) where
   under-append [] b u v = v
   under-append (x ∷ a) b u v = under-cons x (a ++ b) (u 0) (under-append a b (under-tail x a u) v)
 
+  pub under-left : (a b : List ℕ) → 0 < n → Under n (a ++ b) → Under n a
+  under-left [] b h u = under-nil h
+  under-left (x ∷ a) b h u = under-cons x a (u 0) (under-left a b h (under-tail x (a ++ b) u))
+
   pub under-right : (a b : List ℕ) → Under n (a ++ b) → Under n b
   under-right [] b u = u
   under-right (x ∷ a) b u = under-right a b (under-tail x (a ++ b) u)

@@ -65,7 +65,7 @@ step-unique t b g ks = leaves-unique (only-one (step t b g ks))
 pub finish-unique : (t b : List ℕ) (a : ℕ) (vs : List ℕ) → OneCall (Only (finish t b a vs))
 finish-unique t b a vs = leaves-unique (only-one (finish t b a vs))
 
--- ---- "same bytes, same answer": of any call, with the bytes and the number that it is lent
+-- ---- the same bytes get the same answer: of any call, with the bytes and the number that it is lent
 pub data Call : Type 0 where
   checks : (t : List ℕ) → Call
   starts : (t b : List ℕ) → Call

@@ -1,4 +1,4 @@
--- The order of choices: of two different sets exactly one comes first, and the first of those that pass is one. Assumes nothing.
+-- The order of choices: of two different sets exactly one comes first, a set comes before its part, and the first of those that pass is one. Assumes nothing.
 use mathlib.Core.Path.{_≡_, refl, sym, ap, _∙_}
 use Prim.Native.Nat.{ℕ, zero, suc, _%_, _^_, _<_}
 use native.Mathlib.Nat.{mod-eq-of-lt, mod-one}
@@ -53,3 +53,9 @@ alike-or c x (suc k) =
 pub one-first : (m c x : ℕ) → c < 2 ^ m → x < 2 ^ m → (c ≡ x → ⊥) → Before c x ⊎ Before x c
 one-first m c x lc lx d =
     ⊎-elim (λ e. absurd (d (sym (mod-eq-of-lt lc) ∙ e ∙ mod-eq-of-lt lx))) (λ b. b) (alike-or c x m)
+
+-- "So a larger choice comes before its own part.": c has all that x has, and an end k besides
+pub larger-first : (c x k : ℕ) → ((j : ℕ) → has x j ≡ true → has c j ≡ true) → has c k ≡ true → has x k ≡ false → Before c x
+larger-first c x k h y n =
+    ⊎-elim (λ e. absurd (apart (sym (has-mod c (suc k) k (omega arith)) ∙ ap (λ (z : ℕ). has z k) e ∙ has-mod x (suc k) k (omega arith)) y n))
+    (λ r. ⊎-elim (λ b. b) (λ b. never (has c (b .lowest-end)) (h (b .lowest-end) (b .held)) (b .not-held)) r) (alike-or c x (suc k))

@@ -1,4 +1,4 @@
--- "Ends": the list of ends is the offers whose target is no control node, each once, rising in the paper's order. Assumes nothing.
+-- Ends: their list is the offers whose target is no control node, each once, rising in the paper's order. Assumes nothing.
 use mathlib.Core.Path.{_≡_, sym, _∙_}
 use Prim.Native.Nat.{ℕ, compare, Ordering·eq}
 use mathlib.Core.Bool.{Bool, true, _&&_}

@@ -14,12 +14,14 @@ pub mod OneTable
 pub mod Fields
 pub mod OneMarking
 pub mod Given
+pub mod Taken
 pub mod Stepped
 pub mod Written
 pub mod Origins
 pub mod Sameness
 pub mod Paths
 pub mod Fuel
+pub mod Cycles
 pub mod Competing
 pub mod Values
 pub mod Orders
@@ -30,6 +32,10 @@ pub mod Choices
 pub mod Search
 pub mod Boards
 pub mod Picks
+pub mod Inputs
+pub mod Decimals
+pub mod Actions
+pub mod Named
 pub mod EmptyChoice
 pub mod Calls
 pub mod Computed

@@ -279,7 +279,7 @@ module _ (t : List ℕ) where
       by (x ∷ (y ∷ [])) e r = never-some r
       by (x ∷ (y ∷ (v ∷ c))) e r = (x, y, v, c, refl, e, r)
 
-  -- ---- "a stock never exceeds upper", whatever the bytes
+  -- ---- "A stock never exceeds upper.", whatever the bytes
   abbrev Room : Marking → Type 0
   Room m = (i : ℕ) → length (m .stock i) ≤ upper t i
 

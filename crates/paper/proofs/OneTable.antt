@@ -44,7 +44,7 @@ noNode = record { nodeKind = 0; nodeOwner = 0; nodeLower = 0; nodeUpper = 0 }
 noEdge : Edge
 noEdge = record { flowKind = 0; flowSource = 0; flowTarget = 0; flowGuarded = 0 }
 
--- "version 1, node count n, edge count e, n nodes of 4 bytes, e edges of 4 bytes"
+-- "version 1, node count n (..), edge count e (..), n nodes of 4 bytes, e edges of 4 bytes."
 unfoldable pub tableOf : List Node → List Edge → List ℕ
 tableOf ns es = sized (1 ∷ length ns ∷ length es ∷ gather nodeBytes ns ++ gather edgeBytes es)
 

@@ -1,4 +1,4 @@
--- "An offer has a value and a set of paths": the paths of an offer are a set, and with its last edge they determine it. Assumes nothing.
+-- "An offer has a value (..) and a set of paths.": the paths of an offer are a set, and with its last edge they determine it. Assumes nothing.
 use mathlib.Core.Path.{_≡_, refl, sym, ap, ap₂, _∙_, subst}
 use Prim.Native.Nat.{ℕ, zero, suc}
 use mathlib.Core.Bool.{Bool, true}
@@ -144,7 +144,7 @@ module _ (t : List ℕ) (goes : ℕ → Option ℕ → Bool) (m : Marking) where
   pub paths-once : (o : Offer) → elem o (offers t goes m) ≡ true → Distinct (paths o)
   paths-once o k = let r = in-offers t goes m (elem-in (offers t goes m) k) in paths-distinct (limits .longestPath) (r .0) (r .2)
 
-  -- "An offer is determined by its last edge and its set of paths"; that its paths are among the other's is enough
+  -- an offer is determined by its last edge and its set of paths; that its paths are among the other's is enough
   pub determined : (o p : Offer) → elem o (offers t goes m) ≡ true → elem p (offers t goes m) ≡ true → lastEdge o ≡ lastEdge p → Within o p → o ≡ p
   determined o p k l s w =
       let a = in-offers t goes m (elem-in (offers t goes m) k) in

@@ -1,4 +1,4 @@
--- The small event: document 01's list "To prove, as one table", in its order and numbers. Assumes nothing.
+-- The small event: the paper's list "To prove, as one table", in its order and numbers. Assumes nothing.
 use Prim.Native.Nat.{ℕ}
 use mathlib.Core.Path.{_≡_, refl}
 use mathlib.Core.List.{List, [], _∷_, _++_}
@@ -59,7 +59,7 @@ guards9 = 0x01 ∷ 0x01 ∷ 0x01 ∷ 0x00 ∷ 0x01 ∷ []
 abbrev M7 : List ℕ
 M7 = 0x00 ∷ 0x0F ∷ 0x01 ∷ 0x00 ∷ 0x01 ∷ 0x00 ∷ 0x00 ∷ 0x00 ∷ 0x09 ∷ 0x01 ∷ 0x00 ∷ 0x00 ∷ 0x00 ∷ 0x07 ∷ 0x01 ∷ 0x00 ∷ 0x00 ∷ []
 
--- "start giving its marking"
+-- start, given what node 1 holds, writes the marking
 c0 : start T (0x02 ∷ 0x00 ∷ 0x00 ∷ 0x00 ∷ 0x07 ∷ 0x00 ∷ 0x00 ∷ 0x00 ∷ 0x09 ∷ []) ≡ good M
 unfolding computed
 c0 = refl
@@ -117,7 +117,7 @@ c12-pick : Pick T12 M guards 255 (good (0 ∷ 1 ∷ []))
 unfolding computed
 c12-pick = picks T12 M guards 255
 
--- the whole output of the program, "ends 2⏎0 3 6 7 1,3⏎1 4 4 7 0,4 1,2,4⏎pick 0⏎"
+-- "Whole output": the lines `ends 2`, `0 3 6 7 1,3`, `1 4 4 7 0,4 1,2,4`, `pick 0`
 printed : Prints (T ++ M ++ guards)
     (101 ∷ 110 ∷ 100 ∷ 115 ∷ 32 ∷ 50 ∷ 10 ∷ 48 ∷ 32 ∷ 51 ∷ 32 ∷ 54 ∷ 32 ∷ 55 ∷ 32 ∷ 49 ∷ 44 ∷ 51 ∷ 10 ∷ 49 ∷ 32 ∷ 52 ∷ 32 ∷ 52 ∷ 32 ∷ 55 ∷ 32 ∷ 48 ∷ 44 ∷ 52 ∷ 32 ∷ 49 ∷ 44 ∷ 50 ∷ 44 ∷ 52 ∷ 10 ∷ 112 ∷ 105 ∷ 99 ∷ 107 ∷ 32 ∷ 48 ∷ 10 ∷ [])
 unfolding computed

@@ -9,22 +9,23 @@ use mathlib.Core.Option.{Option, none, some}
 use lib.Dec.{leb, ltb, eqb}
 use lib.ListN.{length, drop, length-append}
 use borrow.Author.Tests.{leb-true, le-leb, ltb-true, lt-ltb, eqb-true, eq-eqb, not-true, not-false}
-use Rattle.paper.specs.Lists.{has, below, all, any, keep, each, gather, count, within, _⇒_}
+use Rattle.paper.specs.Lists.{below, all, any, keep, gather, count, within, _⇒_}
 use Rattle.paper.specs.Limits.{limits}
 use Rattle.paper.specs.Answers.{good, judgedBy}
 use Rattle.paper.specs.Table.{nodes, edges, kind, owner, lower, upper, source, target, into, out, inputs, isObject, isAction, isInput, isBuffer, isOutgoing, isPin, isObjectNode, isActivityFinal, oneOf, mayLeave, mayEnter, tableFine}
 use Rattle.paper.specs.Marking.{Marking, Field, stockOf, runsOf, tokensOf, layout, counted, pinFine, cleared, markingFine, endedOf, hasStock, hasRuns, hasTokens, Good}
-use Rattle.paper.specs.Offers.{Offer, first, lastEdge, value, orElse, firsts, offersOn, offers, isEnd, targetOf, belongs, endOrder, ends, goesOver, guardsFine, sizesFine}
-use Rattle.paper.specs.Choices.{Board, boardOf, howMany, end, taken, takenEnds, arrivals, rule1, rule2, rule3, actionAgrees, agrees, rules, spent, spend, gain, close, next}
+use Rattle.paper.specs.Offers.{Offer, first, lastEdge, value, orElse, firsts, offersOn, offers, targetOf, belongs, ends, goesOver, guardsFine, sizesFine}
+use Rattle.paper.specs.Choices.{Board, boardOf, howMany, takenEnds, arrivals, rule1, rule2, rule3, actionAgrees, agrees, rules, spent, spend, gain, close, next}
 use Rattle.paper.specs.Operations.{rising, choiceOf, stepOf}
 use Rattle.paper.proofs.Bools.{never, and-true, and-both, or-true, or-right, if-true, either-way}
 use Rattle.paper.proofs.Lists.{all-below, below-all, lowest-is-none}
-use Rattle.paper.proofs.Lengths.{length-gather-le, each-below}
+use Rattle.paper.proofs.Lengths.{length-gather-le}
 use Rattle.paper.proofs.Ladders.{same-good, row-good, need-good, unless-good}
-use Rattle.paper.proofs.Members.{In, here, later, in-equal, in-each, each-in, in-keep, keep-in, in-keep-below, below-in, any-in, in-any, none-any, all-in, in-all, snoc-some}
+use Rattle.paper.proofs.Members.{In, here, later, in-keep, keep-in, in-keep-below, below-in, any-in, in-any, none-any, all-in, in-all, snoc-some}
 use Rattle.paper.proofs.Bounds.{most-if, under-nil, under-cons, under-append, under-gather, under-drop}
 use Rattle.paper.proofs.Bytes.{Words}
-use Rattle.paper.proofs.Orders.{in-sort}
+use Rattle.paper.proofs.Taken.{taken-in}
+use Rattle.paper.proofs.Ends.{in-ends}
 use Rattle.paper.proofs.Origins.{Handed, starts, extends, joins, Way, alone, beside, on-none, on-view, in-offers}
 use Rattle.paper.proofs.OneMarking.{good-elsewhere}
 use Rattle.paper.proofs.Sameness.{in-elem, on-last}
@@ -158,14 +159,7 @@ module _ (t g : List ℕ) (m : Marking) (fine : tableFine t limits ≡ good tt) 
 
   -- the taken ends are offers of the table
   taken-offer : {o : Offer} → In o (takenEnds on c) → In o (offers t (goesOver g) m)
-  unfolding takenEnds taken ends
-  taken-offer {o} k =
-      let es = ends t (offers t (goesOver g) m) in
-      let r = in-each (end on) (keep (has c) (below (howMany on))) k in
-      let s = in-keep (has c) (below (howMany on)) (r .1) in
-      let q : In o (each (end on) (below (length es))) = in-equal (r .2) (each-in (end on) (s .0)) in
-      let z : In o es = subst (λ (xs : List Offer). In o xs) (each-below (first 0 none) (end on) es (λ k l. refl)) q in
-      in-keep (isEnd t) (offers t (goesOver g) m) (in-sort (endOrder t) (keep (isEnd t) (offers t (goesOver g) m)) z) .0
+  taken-offer k = in-ends t (offers t (goesOver g) m) (taken-in on c k) .0
 
   taken-edge : {o : Offer} → In o (takenEnds on c) → lastEdge o < edges t
   taken-edge k =

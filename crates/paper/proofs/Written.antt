@@ -78,7 +78,7 @@ step-meant t b g ks out u h =
     let m = q .0 in
     (d, s .0, k .1, s .1, kept t out (s .0) (r .1) (step-good t g m (r .1) (read-is-good t b m u (q .1) .0) d (q .2) ks (s .0) (s .1)) (same-good (s .2)))
 
--- ---- "no bad day"
+-- ---- a day of calls
 -- the bytes that a day on the table t comes to, call after call, each on what the one before wrote
 pub data Day (t : List ℕ) : List ℕ → Type 0 where
   begun : {out : List ℕ} (vs : List ℕ) → Bytes vs → start t vs ≡ good out → Day t out

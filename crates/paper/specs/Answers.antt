@@ -1,4 +1,5 @@
--- Answers and refusals: "a refusal, a place and a length", "the lowest number that applies to the operation is given". Assumes nothing.
+-- Answers and refusals: "Each returns a refusal (0 if none), a place (0 if no refusal) and a length written.", "The lowest number that applies to the
+-- operation is given." Assumes nothing.
 use Prim.Native.Nat.{ℕ}
 use mathlib.Core.Bool.{Bool, true, false}
 use mathlib.Core.List.{List, [], _∷_}

@@ -1,4 +1,5 @@
--- Document 01 as definitions, a module for each of its headings, in its order. Read them in this order too.
+-- The paper as definitions. Lists, Answers, Limits and Bytes are the words that the others use; Table, Marking, Offers, Choices ("Acceptable choices"),
+-- Operations and Program (of "The small event") follow its headings. Read them in this order.
 pub mod Lists
 pub mod Answers
 pub mod Limits

@@ -1,4 +1,4 @@
--- Every size that document 01 sets, in one place. Assumes nothing.
+-- Every size that the paper sets, in one place. Assumes nothing.
 use Prim.Native.Nat.{ℕ}
 
 pub record Limits : Type 0 where

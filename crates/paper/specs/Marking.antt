@@ -45,19 +45,19 @@ module _ (t : List ℕ) where
   unfoldable pub counted : ℕ → Bool
   counted j = isControl t j && (isInitial (kind t (source t j)) || isAction (kind t (source t j)))
 
-  -- "per node in order: kinds 3 to 7, a count and that many 4-byte values; kind 2, a running byte; others nothing"
+  -- "per node in order: kinds 3 to 7, a count and that many 4-byte values, oldest first; kind 2, a running byte 0 or 1; others nothing."
   abbrev pub nodeFields : ℕ → List Field
   nodeFields i = cond (isObjectNode (kind t i)) (stockOf i ∷ []) (cond (isAction (kind t i)) (runsOf i ∷ []) [])
 
-  -- "Then, for each control edge leaving an initial node or action, a count"
+  -- "Then, for each control edge leaving an initial node or action, a count 0 to 255."
   unfoldable pub layout : List Field
   layout = gather nodeFields (below (nodes t)) ++ each tokensOf (keep counted (below (edges t)))
 
-  -- "Length (2 bytes), version 1, state", then the fields
+  -- "Length (2 bytes), version 1, state (0 live, 1 ended).", then the fields
   unfoldable pub encode : Marking → List ℕ
   encode m = sized (1 ∷ oneIf (m .ended) ∷ gather (written m) layout)
 
-  -- a field, as what it sets; "a stock never exceeds upper", "a running byte 0 or 1"
+  -- a field, as what it sets; "A stock never exceeds upper.", "a running byte 0 or 1"
   unfoldable pub fieldRead : Marking → Field → Reader Marking
   fieldRead m (stockOf i) = do
     vs ← valuesRead (upper t i)
@@ -122,7 +122,7 @@ hasRuns t i = ltb i (nodes t) && isAction (kind t i)
 abbrev pub hasTokens : List ℕ → ℕ → Bool
 hasTokens t j = ltb j (edges t) && counted t j
 
--- a marking of the table: "a stock never exceeds upper", values have four bytes, counts are "0 to 255", pins and an ended marking are as they
+-- a marking of the table: "A stock never exceeds upper.", values have four bytes, counts are "0 to 255", pins and an ended marking are as they
 -- should be, and nothing stands where the layout has no field
 pub record Good (t : List ℕ) (m : Marking) : Type 0 where
   pub stocks : (i : ℕ) → length (m .stock i) ≤ cond (hasStock t i) (upper t i) 0

@@ -32,7 +32,7 @@ abbrev pub orElse : Option ℕ → Option ℕ → Option ℕ
 orElse none w = w
 orElse (some v) w = some v
 
--- "a value (none on control edges)"; at a join "the value is that of the object edge's offer"
+-- "a value (none on control edges)"; at a join "The value is that of the object edge's offer."
 unfoldable pub value : Offer → Option ℕ
 value (first e v) = v
 value (over o e) = value o
@@ -115,12 +115,12 @@ module _ (t : List ℕ) where
   unfoldable pub clash : Offer → Offer → Bool
   clash o p = ofOneStock o p || ofOneDecision o p || ofOneJoin o p
 
-  -- "Two offers compete if a maker of one and a different maker of the other are (a), (b) or (c)"
+  -- "Two offers compete if a maker of one and a different maker of the other are (a) .. (b) .. or (c) .."
   unfoldable pub compete : Offer → Offer → Bool
   compete o p = any (λ a. any (λ b. not (same a b) && clash a b) (makers p)) (makers o)
 
   -- ---- the offers on an edge
-  -- "A control edge with a count above 0 carries one offer, however many tokens it holds. Each outgoing edge of a non-empty object node carries
+  -- "First offers: a control edge with a count above 0 carries one offer, however many tokens it holds. Each outgoing edge of a non-empty object node carries
   -- one, with the oldest value."
   abbrev oldest : ℕ → List ℕ → List Offer
   oldest e [] = []

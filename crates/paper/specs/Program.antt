@@ -64,7 +64,7 @@ unfoldable pub endLine : Board → ℕ → List ℕ
 endLine d k =
     line (decimal k ∷ decimal (lastEdge (end d k)) ∷ decimal (targetOf (d .table) (end d k)) ∷ valueText (value (end d k)) ∷ each commas (sortedPaths (end d k)))
 
--- "First the number of ends; then per end ..; The last line is the pick with no node named"
+-- "First the number of ends; then per end .. The last line is the pick with no node named"
 unfoldable pub boardText : Board → List ℕ → List ℕ
 boardText d ks =
     line ((101 ∷ 110 ∷ 100 ∷ 115 ∷ []) ∷ decimal (howMany d) ∷ [])

@@ -9,8 +9,8 @@ use Rattle.paper.specs.Answers.{Answer, _>>=_, unless, need}
 use Rattle.paper.specs.Bytes.{framed}
 use Rattle.paper.specs.Limits.{Limits, limits}
 
--- ---- "Kinds": 1 initial, 2 action, 3 input pin, 4 output pin, 5 central buffer, 6 incoming parameter, 7 outgoing parameter,
--- 8 decision, 9 merge, 10 fork, 11 join, 12 flow final, 13 activity final
+-- ---- "Kinds: 1 initial, 2 action, 3 input pin, 4 output pin, 5 central buffer, 6 incoming parameter, 7 outgoing parameter, 8 decision, 9 merge, 10
+-- fork, 11 join, 12 flow final, 13 activity final."
 abbrev pub isInitial : ℕ → Bool
 isInitial k = eqb k 1
 
@@ -54,7 +54,7 @@ isPin k = isInput k || isOutput k
 abbrev pub isObjectNode : ℕ → Bool
 isObjectNode k = within 3 7 k
 
--- "control nodes (kinds 8 to 11)"
+-- "control nodes (kinds 8 to 11; ..)"
 abbrev pub isControlNode : ℕ → Bool
 isControlNode k = within 8 11 k
 
@@ -77,7 +77,7 @@ module _ (t : List ℕ) where
   abbrev pub header : ℕ
   header = 5
 
-  -- "version 1, node count n, edge count e"
+  -- "version 1, node count n (1 to 48), edge count e (0 to 64)"
   unfoldable pub version : ℕ
   version = at t 2
 
@@ -161,7 +161,7 @@ module _ (t : List ℕ) where
       && mayLeave (isObject j) (kind (source j)) && mayEnter (isObject j) (kind (target j))
 
   -- ---- row 4, per node
-  -- "A decision or fork has exactly one incoming and at least one outgoing edge; a merge or join at least one incoming and exactly one outgoing."
+  -- "a decision or fork has exactly one incoming and at least one outgoing edge; a merge or join at least one incoming and exactly one outgoing."
   unfoldable pub degreesFine : ℕ → Bool
   degreesFine i =
       (isDecision (kind i) || isFork (kind i) ⇒ eqb (length (into i)) 1 && leb 1 (length (out i)))
@@ -188,7 +188,7 @@ module _ (t : List ℕ) where
   chain zero i = isControlNode (kind i)
   chain (suc k) i = isControlNode (kind i) && any (λ j. chain k (source j)) (into i)
 
-  -- "No chain of 16 control nodes ends at the node."
+  -- "No chain of 16 control nodes (..) ends at the node."
   unfoldable pub chainFine : ℕ → Bool
   chainFine i = not (chain (limits .longestPath - 1) i)
 

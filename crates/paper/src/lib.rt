@@ -1,1 +1,1 @@
-// Document 01 as definitions (specs/) and their laws (proofs/). There is no code here: every other crate cites this one.
+// The paper as definitions (specs/) and their laws (proofs/). There is no code here: every other crate cites this one.
