@@ -1,3 +1,4 @@
 -- What a board is read from, and what is read.
 pub mod Starts
+pub mod Guards
 pub mod Reading

@@ -4,7 +4,8 @@ mod guards;
 mod reading;
 mod starts;
 
-pub use guards::guards_fine;
+pub use guards::GuardsAnswer;
+pub use guards::read_guards;
 pub use reading::Board;
 pub use reading::read;
 pub use starts::first_offers;

@@ -1,5 +1,6 @@
 // Rows 5 to 8: the board of a marking and guards, in lent slices but for the offers.
-use super::guards::guards_fine;
+use super::guards::GuardsAnswer;
+use super::guards::read_guards;
 use super::starts::first_offers;
 use ends::EndsAnswer;
 use flow::Built;
@@ -165,8 +166,8 @@ pub fn read(
         MarkingAnswer::Ended => return refused(6, 0),
         MarkingAnswer::Refused(number, place) => return refused(number, place),
     }
-    if !guards_fine(t, table, g) {
-        return refused(7, 0);
+    if let GuardsAnswer::Refused(number, place) = read_guards(t, table, g) {
+        return refused(number, place);
     }
     seat(t, table, b, g, from, kept, tokens, ends, order, lens, cells)
 }

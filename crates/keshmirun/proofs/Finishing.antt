@@ -8,7 +8,7 @@ use lib.ListN.{length}
 use borrow.Author.Tests.{eqb-true, ltb-true, lt-ltb, le-ltb, ne-eqb}
 use Rattle.paper.specs.Lists.{oneIf}
 use Rattle.paper.specs.Limits.{limits}
-use Rattle.paper.specs.Answers.{Answer, refused, good, _>>=_}
+use Rattle.paper.specs.Answers.{Answer, refused, good, _>>=_, need}
 use Rattle.paper.specs.Table.{nodes, kind, owner, outputs, isAction, isInput, isObjectNode}
 use Rattle.paper.specs.Marking.{Marking, stockOf, tokensOf, encode, marking}
 use Rattle.paper.specs.Operations.{idled, finishOf, finish, inRoom, Reply}
@@ -26,6 +26,7 @@ use Rattle.holding.specs.TakenUp.{Held, LiveHeld}
 use Rattle.holding.specs.Giving.{giveOf}
 use Rattle.holding.proofs.HoldingLaws.{one-if}
 use Rattle.holding.proofs.TakenUp.{refused-read, ended-read, live-good}
+use Rattle.board.proofs.NeedLaws.{need-refused}
 use Rattle.keshmirun.specs.Delivered.{Deliverable, delivered}
 use Rattle.keshmirun.specs.Running.{runsIn}
 
@@ -64,9 +65,9 @@ module _ (t b : List ℕ) (a : ℕ) (vs : List ℕ) where
       finish-6 q = let z = ended-read t b from kept runs tokens r h q in rw (read-fine t e, z .1, z .2)
 
     module _ {y : Held} (l : LiveHeld t b y) where
-      pub finish-14 : runsIn t (l .current) a ≡ false → finish t b a vs ≡ refused 14 0
+      pub finish-14 : (n p : ℕ) → refused n p ≡ need 14 (runsIn t (l .current) a) → finish t b a vs ≡ refused n p
       unfolding finish finishOf
-      finish-14 n = rw (read-fine t e, l .is-read, l .live, n)
+      finish-14 n p h = let q = need-refused 14 (runsIn t (l .current) a) n p h in rw (read-fine t e, l .is-read, l .live, q .0, q .1, q .2)
 
       pub finish-delivers : runsIn t (l .current) a ≡ true → finish t b a vs ≡ delivered t 4 a (λ i. eqb i a) (idled t a (l .current)) vs
       unfolding finish finishOf delivered giveOf outputs listedNodes

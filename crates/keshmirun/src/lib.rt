@@ -15,7 +15,7 @@ ghost use Prim.Native.Nat.{ℕ, _≤_, _<_};
 ghost use lib.Dec.{eqb};
 ghost use lib.ListN.{length};
 ghost use Rattle.paper.specs.Lists.{at, oneIf};
-ghost use Rattle.paper.specs.Answers.{good};
+ghost use Rattle.paper.specs.Answers.{good, need};
 ghost use Rattle.paper.specs.Table.{nodes, kind, isAction};
 ghost use Rattle.paper.specs.Marking.{Marking};
 ghost use Rattle.paper.specs.Operations.{
@@ -34,7 +34,7 @@ ghost use Rattle.paper.specs.Operations.{
 ghost use Rattle.table.specs.Reading.{Spans, tableRead};
 ghost use Rattle.holding.specs.TakenUp.{held, HeldRoom, LiveHeld};
 ghost use Rattle.keshmirun.specs.Delivered.{Deliverable, delivered};
-ghost use Rattle.keshmirun.specs.Running.{runsIn};
+ghost use Rattle.keshmirun.specs.Running.{said, runsIn};
 
 // Whether the bytes are a table. Writes nothing.
 #[no_mangle]
@@ -171,18 +171,27 @@ pub extern "C" fn step(
     ask(table, x, marking, guards, Request::Step, choice, out)
 }
 
+// What asking for a running action answers: nothing but that it runs, or the refusal's number and its place.
+enum RunningAnswer {
+    Good,
+    Refused(u8, u8),
+}
+
 // Whether node a is a running action (row 14).
-fn is_running(t: &[u8], table: Table, runs: &[u8], a: usize) -> bool
+fn running(t: &[u8], table: Table, runs: &[u8], a: usize) -> RunningAnswer
     requires { ⌜ Spans (now t) table × (table .nodes ≤ length (now runs)) ⌝ }
-    ensures { λ r. ⌜ ((m : Marking) → ((i : ℕ) → i < nodes (now (t .entry)) → isAction (kind (now (t .entry)) i) ≡ true → at (now (runs .entry)) i ≡ oneIf (m .runs i)) → r ≡ runsIn (now (t .entry)) m a) ⌝ }
+    ensures { λ r. ⌜ ((m : Marking) → ((i : ℕ) → i < nodes (now (t .entry)) → isAction (kind (now (t .entry)) i) ≡ true → at (now (runs .entry)) i ≡ oneIf (m .runs i)) → said r ≡ need 14 (runsIn (now (t .entry)) m a)) ⌝ }
 {
     if a >= table.nodes {
-        return false;
+        return RunningAnswer::Refused(14, 0);
     }
     if table.kind(t, a) != Table::ACTION {
-        return false;
+        return RunningAnswer::Refused(14, 0);
     }
-    runs[a] == 1
+    if runs[a] != 1 {
+        return RunningAnswer::Refused(14, 0);
+    }
+    RunningAnswer::Good
 }
 
 // finish on a live marking that was taken up and in which action a runs.
@@ -253,8 +262,8 @@ pub extern "C" fn finish(
         MarkingAnswer::Refused(number, place) => return wire::pack(number, place, 0),
     }
     let a = wire::wide(action);
-    if !is_running(table, x, &runs, a) {
-        return wire::pack(14, 0, 0);
+    if let RunningAnswer::Refused(number, place) = running(table, x, &runs, a) {
+        return wire::pack(number, place, 0);
     }
     conclude(
         table,

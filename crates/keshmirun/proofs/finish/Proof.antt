@@ -2,10 +2,11 @@
 use mathlib.Core.Path.{_≡_, refl, sym, ap, _∙_}
 use lib.ListN.{length}
 use native.Mathlib.Omega.{arith}
-use borrow.Author.Tests.{not-true, not-false}
 use Rattle.table.specs.Reading.{said}
 use Rattle.table.proofs.Reading.{read-spans, most-nodes, most-edges}
 use Rattle.holding.proofs.TakenUp.{live-read, lent-room}
+use Rattle.board.proofs.NeedLaws.{need-good}
+use Rattle.keshmirun.specs.Running.{said as saidOfRunning, runsIn}
 use Rattle.keshmirun.proofs.Finishing.{running-node, finish-refused, finish-5, finish-6, finish-14, finish-delivers}
 use borrow.Author.Needs.{needs}
 use Rattle.keshmirun.proofs.finish.Statement.{statement}
@@ -75,25 +76,31 @@ returns-3 c = let a = c .before .before .before .before .before .before .before 
 wide-requires : tie.Need-wide-requires
 wide-requires c κs = search needs
 
-slice-aggregate-is-running : tie.Need-slice-aggregate-is-running
-slice-aggregate-is-running c = search needs
+slice-aggregate-running : tie.Need-slice-aggregate-running
+slice-aggregate-running c = search needs
 
-is-running-requires : tie.Need-is-running-requires
-is-running-requires c κs = let t = c .before .before .before .before .before .before .before .before .before .before .before .before .before .before .before .before .before .before .before .before .before .args .table .now in
+running-requires : tie.Need-running-requires
+running-requires c κs = let t = c .before .before .before .before .before .before .before .before .before .before .before .before .before .before .before .before .before .before .before .before .before .args .table .now in
     let e = (sym (c .before .before .before .before .before .before .before .before .before .before .before .before .before .before .before .before .read .ensures) ∙ ap said (c .before .before .before .before .before .before .before .before .before .before .before .before .before .before .x .given .1)) in
     (read-spans t e, omega (arith, most-nodes t e, c .before .before .before .before .before .before .before .before .take-up .kept))
+
+enum-known-number-3 : tie.Need-enum-known-number-3
+enum-known-number-3 c = search needs
 
 pack-requires-4 : tie.Need-pack-requires-4
 pack-requires-4 c κs = search needs
 
 returns-4 : tie.Need-returns-4
-returns-4 c = let a = c .before .before .before .before .before .before .before .before .before .before .before .before .before .before .before .before .before .before .before .before .before .before .before .before .args in
-    let u = c .before .before .before .before .before .before .before .before .before .before .before .take-up in
-    let e = (sym (c .before .before .before .before .before .before .before .before .before .before .before .before .before .before .before .before .before .before .before .read .ensures) ∙ ap said (c .before .before .before .before .before .before .before .before .before .before .before .before .before .before .before .before .before .x .given .1)) in
-    let l = (live-read (a .table .now) (a .marking .now) (u .last .1 .1 .1 .0) (u .last .1 .1 .1 .1 .0) (u .last .1 .1 .1 .1 .1 .0) (u .last .1 .1 .1 .1 .1 .1 .0) (u .result) (u .ensures) (c .before .before .before .before .before .enum-told .given .1)) in
-    let n = sym (c .before .before .is-running .ensures (l .current) (l .holding .nodes-held .running)) ∙ not-true _ (c .before .if1 .taken) in
-    let w = c .before .before .before .before .wide .ensures .0 in
-    record { answer = _; allowed = sym (finish-14 (a .table .now) (a .marking .now) (a .action) (a .values .now) e l (rw w at n)); reply = (c .pack4 .ensures, refl) }
+returns-4 c = let a = c .before .before .before .before .before .before .before .before .before .before .before .before .before .before .before .before .before .before .before .before .before .before .before .before .before .before .args in
+    let u = c .before .before .before .before .before .before .before .before .before .before .before .before .before .take-up in
+    let e = (sym (c .before .before .before .before .before .before .before .before .before .before .before .before .before .before .before .before .before .before .before .before .before .read .ensures) ∙ ap said (c .before .before .before .before .before .before .before .before .before .before .before .before .before .before .before .before .before .before .before .x .given .1)) in
+    let l = (live-read (a .table .now) (a .marking .now) (u .last .1 .1 .1 .0) (u .last .1 .1 .1 .1 .0) (u .last .1 .1 .1 .1 .1 .0) (u .last .1 .1 .1 .1 .1 .1 .0) (u .result) (u .ensures) (c .before .before .before .before .before .before .before .enum-told .given .1)) in
+    let w = c .before .before .before .before .before .before .wide .ensures .0 in
+    let q = sym (ap saidOfRunning (c .before .before .number3 .given .1)) ∙ c .before .before .before .before .running .ensures (l .current) (l .holding .nodes-held .running) in
+    record { answer = _; allowed = sym (finish-14 (a .table .now) (a .marking .now) (a .action) (a .values .now) e l _ _ (rw w at q)); reply = (c .pack4 .ensures, refl) }
+
+enum-told-3 : tie.Need-enum-told-3
+enum-told-3 c = search needs
 
 slice-aggregate-conclude : tie.Need-slice-aggregate-conclude
 slice-aggregate-conclude c = search needs
@@ -108,27 +115,27 @@ slice-aggregate-conclude-4 : tie.Need-slice-aggregate-conclude-4
 slice-aggregate-conclude-4 c = search needs
 
 conclude-requires : tie.Need-conclude-requires
-conclude-requires c κs = let a = c .before .before .before .before .before .before .before .before .before .before .before .before .before .before .before .before .before .before .before .before .before .before .before .before .before .before .before .before .args in
-    let u = c .before .before .before .before .before .before .before .before .before .before .before .before .before .before .before .take-up in
-    let e = (sym (c .before .before .before .before .before .before .before .before .before .before .before .before .before .before .before .before .before .before .before .before .before .before .before .read .ensures) ∙ ap said (c .before .before .before .before .before .before .before .before .before .before .before .before .before .before .before .before .before .before .before .before .before .x .given .1)) in
-    let l = (live-read (a .table .now) (a .marking .now) (u .last .1 .1 .1 .0) (u .last .1 .1 .1 .1 .0) (u .last .1 .1 .1 .1 .1 .0) (u .last .1 .1 .1 .1 .1 .1 .0) (u .result) (u .ensures) (c .before .before .before .before .before .before .before .before .before .enum-told .given .1)) in
+conclude-requires c κs = let a = c .before .before .before .before .before .before .before .before .before .before .before .before .before .before .before .before .before .before .before .before .before .before .before .before .before .before .before .before .before .args in
+    let u = c .before .before .before .before .before .before .before .before .before .before .before .before .before .before .before .before .take-up in
+    let e = (sym (c .before .before .before .before .before .before .before .before .before .before .before .before .before .before .before .before .before .before .before .before .before .before .before .before .read .ensures) ∙ ap said (c .before .before .before .before .before .before .before .before .before .before .before .before .before .before .before .before .before .before .before .before .before .before .x .given .1)) in
+    let l = (live-read (a .table .now) (a .marking .now) (u .last .1 .1 .1 .0) (u .last .1 .1 .1 .1 .0) (u .last .1 .1 .1 .1 .1 .0) (u .last .1 .1 .1 .1 .1 .1 .0) (u .result) (u .ensures) (c .before .before .before .before .before .before .before .before .before .before .enum-told .given .1)) in
     let f : length (u .last .1 .1 .1 .0) ≡ 48 = omega (arith, u .kept) in
     let k : length (u .last .1 .1 .1 .1 .0) ≡ 48 = omega (arith, u .kept) in
     let r : length (u .last .1 .1 .1 .1 .1 .0) ≡ 48 = omega (arith, u .kept) in
     let o : length (u .last .1 .1 .1 .1 .1 .1 .0) ≡ 64 = omega (arith, u .kept) in
-    let n = sym (c .before .before .before .before .before .before .is-running .ensures (l .current) (l .holding .nodes-held .running)) ∙ not-false _ (c .before .before .before .before .before .if1 .left) in
-    (e, omega (arith, running-node (a .table .now) (l .current) (c .before .before .before .before .before .before .before .before .wide .result) n, read-spans (a .table .now) e .nodes-read), lent-room (a .table .now) e _ _ _ _ f k r o, l)
+    let n = need-good 14 (runsIn (a .table .now) (l .current) (c .before .before .before .before .before .before .before .before .before .wide .result)) (sym (ap saidOfRunning (c .before .before .before .before .before .enum-told3 .given .1)) ∙ c .before .before .before .before .before .before .before .running .ensures (l .current) (l .holding .nodes-held .running)) in
+    (e, omega (arith, running-node (a .table .now) (l .current) (c .before .before .before .before .before .before .before .before .before .wide .result) n, read-spans (a .table .now) e .nodes-read), lent-room (a .table .now) e _ _ _ _ f k r o, l)
 
 same-length : tie.Need-same-length
 same-length c = search needs
 
 returns-5 : tie.Need-returns-5
-returns-5 c = let a = c .before .before .before .before .before .before .before .before .before .before .before .before .before .before .before .before .before .before .before .before .before .before .before .before .before .before .before .before .before .before .before .before .before .before .args in
-    let u = c .before .before .before .before .before .before .before .before .before .before .before .before .before .before .before .before .before .before .before .before .before .take-up in
-    let e = (sym (c .before .before .before .before .before .before .before .before .before .before .before .before .before .before .before .before .before .before .before .before .before .before .before .before .before .before .before .before .before .read .ensures) ∙ ap said (c .before .before .before .before .before .before .before .before .before .before .before .before .before .before .before .before .before .before .before .before .before .before .before .before .before .before .before .x .given .1)) in
-    let l = (live-read (a .table .now) (a .marking .now) (u .last .1 .1 .1 .0) (u .last .1 .1 .1 .1 .0) (u .last .1 .1 .1 .1 .1 .0) (u .last .1 .1 .1 .1 .1 .1 .0) (u .result) (u .ensures) (c .before .before .before .before .before .before .before .before .before .before .before .before .before .before .before .enum-told .given .1)) in
-    let n = sym (c .before .before .before .before .before .before .before .before .before .before .before .before .is-running .ensures (l .current) (l .holding .nodes-held .running)) ∙ not-false _ (c .before .before .before .before .before .before .before .before .before .before .before .if1 .left) in
-    let w = c .before .before .before .before .before .before .before .before .before .before .before .before .before .before .wide .ensures .0 in
+returns-5 c = let a = c .before .before .before .before .before .before .before .before .before .before .before .before .before .before .before .before .before .before .before .before .before .before .before .before .before .before .before .before .before .before .before .before .before .before .before .args in
+    let u = c .before .before .before .before .before .before .before .before .before .before .before .before .before .before .before .before .before .before .before .before .before .before .take-up in
+    let e = (sym (c .before .before .before .before .before .before .before .before .before .before .before .before .before .before .before .before .before .before .before .before .before .before .before .before .before .before .before .before .before .before .read .ensures) ∙ ap said (c .before .before .before .before .before .before .before .before .before .before .before .before .before .before .before .before .before .before .before .before .before .before .before .before .before .before .before .before .x .given .1)) in
+    let l = (live-read (a .table .now) (a .marking .now) (u .last .1 .1 .1 .0) (u .last .1 .1 .1 .1 .0) (u .last .1 .1 .1 .1 .1 .0) (u .last .1 .1 .1 .1 .1 .1 .0) (u .result) (u .ensures) (c .before .before .before .before .before .before .before .before .before .before .before .before .before .before .before .before .enum-told .given .1)) in
+    let n = need-good 14 (runsIn (a .table .now) (l .current) (c .before .before .before .before .before .before .before .before .before .before .before .before .before .before .before .wide .result)) (sym (ap saidOfRunning (c .before .before .before .before .before .before .before .before .before .before .before .enum-told3 .given .1)) ∙ c .before .before .before .before .before .before .before .before .before .before .before .before .before .running .ensures (l .current) (l .holding .nodes-held .running)) in
+    let w = c .before .before .before .before .before .before .before .before .before .before .before .before .before .before .before .wide .ensures .0 in
     record { answer = _; allowed = sym (finish-delivers (a .table .now) (a .marking .now) (a .action) (a .values .now) e l (rw w at n)); reply = rw w at (c .before .before .before .before .before .conclude .ensures l) }
 
 pub finish-spec : {M : Type 1} → statement M
@@ -153,10 +160,12 @@ finish-spec =
     pack-requires-3
     returns-3
     wide-requires
-    slice-aggregate-is-running
-    is-running-requires
+    slice-aggregate-running
+    running-requires
+    enum-known-number-3
     pack-requires-4
     returns-4
+    enum-told-3
     slice-aggregate-conclude
     slice-aggregate-conclude-2
     slice-aggregate-conclude-3

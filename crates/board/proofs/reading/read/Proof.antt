@@ -1,13 +1,15 @@
 -- `read`: row after row, each by what its reader answers. Assumes nothing.
-use mathlib.Core.Path.{_≡_, sym, _∙_}
+use mathlib.Core.Path.{_≡_, sym, ap, _∙_}
 use native.Mathlib.Omega.{arith}
 use lib.ListN.{length}
-use borrow.Author.Tests.{not-true, not-false}
 use Rattle.paper.specs.Table.{nodes, edges}
+use Rattle.paper.specs.Offers.{guardsFine}
 use Rattle.table.proofs.Reading.{read-spans}
 use Rattle.holding.specs.TakenUp.{held}
 use Rattle.holding.proofs.TakenUp.{live-read}
+use Rattle.board.specs.Guards.{said}
 use Rattle.board.specs.Reading.{seats}
+use Rattle.board.proofs.NeedLaws.{need-refused, need-good}
 use Rattle.board.proofs.GuardLaws.{guards-long}
 use Rattle.board.proofs.Ladder.{board-5, board-6, board-7, refused-board}
 use borrow.Author.Needs.{needs}
@@ -81,8 +83,11 @@ returns-2 c = let a = c .before .before .before .before .before .before .before 
     refused-board t b g (c .refused2 .result .offers) (held (c .before .before .before .before .before .before .before .before .before .before .before .before .take-up .last .1 .1 .1 .0) (c .before .before .before .before .before .before .before .before .before .before .before .before .take-up .last .1 .1 .1 .1 .0) (c .before .before .before .before .before .before .before .before .before .before .before .before .take-up .last .1 .1 .1 .1 .1 .0) (c .before .before .before .before .before .before .before .before .before .before .before .before .take-up .last .1 .1 .1 .1 .1 .1 .0)) (seats (a .ends .now) (a .order .now) (a .lens .now) (a .cells .now)) (c .refused2 .result .answer) _ _ (c .refused2 .ensures)
     (board-5 t b g (h .0) (c .before .before .before .before .before .before .before .before .before .before .before .before .take-up .last .1 .1 .1 .0) (c .before .before .before .before .before .before .before .before .before .before .before .before .take-up .last .1 .1 .1 .1 .0) (c .before .before .before .before .before .before .before .before .before .before .before .before .take-up .last .1 .1 .1 .1 .1 .0) (c .before .before .before .before .before .before .before .before .before .before .before .before .take-up .last .1 .1 .1 .1 .1 .1 .0) (c .before .before .before .before .before .before .before .before .before .before .before .before .take-up .result) (c .before .before .before .before .before .before .before .before .before .before .before .before .take-up .ensures) _ _ (q .1))
 
-guards-fine-requires : tie.Need-guards-fine-requires
-guards-fine-requires c κs = read-spans (c .before .before .before .before .before .before .before .before .before .before .before .before .before .before .before .before .before .before .before .before .before .before .before .before .before .before .args .t .now) (c .before .before .before .before .before .before .before .before .before .before .before .before .before .before .before .before .before .before .before .before .before .before .before .before .before .before .pre .0)
+read-guards-requires : tie.Need-read-guards-requires
+read-guards-requires c κs = read-spans (c .before .before .before .before .before .before .before .before .before .before .before .before .before .before .before .before .before .before .before .before .before .before .before .before .before .before .args .t .now) (c .before .before .before .before .before .before .before .before .before .before .before .before .before .before .before .before .before .before .before .before .before .before .before .before .before .before .pre .0)
+
+enum-known-number-2 : tie.Need-enum-known-number-2
+enum-known-number-2 c = search needs
 
 refused-requires-3 : tie.Need-refused-requires-3
 refused-requires-3 c κs = search needs
@@ -100,36 +105,40 @@ same-length-12 : tie.Need-same-length-12
 same-length-12 c = search needs
 
 returns-3 : tie.Need-returns-3
-returns-3 c = let a = c .before .before .before .before .before .before .before .before .before .before .before .before .before .before .before .before .before .before .before .before .before .before .before .before .before .before .before .before .before .args in
-    let h = c .before .before .before .before .before .before .before .before .before .before .before .before .before .before .before .before .before .before .before .before .before .before .before .before .before .before .before .before .before .pre in
+returns-3 c = let a = c .before .before .before .before .before .before .before .before .before .before .before .before .before .before .before .before .before .before .before .before .before .before .before .before .before .before .before .before .before .before .before .args in
+    let h = c .before .before .before .before .before .before .before .before .before .before .before .before .before .before .before .before .before .before .before .before .before .before .before .before .before .before .before .before .before .before .before .pre in
     let t = a .t .now in
     let b = a .b .now in
     let g = a .g .now in
-    let l = live-read t b (c .before .before .before .before .before .before .before .before .before .before .before .before .before .take-up .last .1 .1 .1 .0) (c .before .before .before .before .before .before .before .before .before .before .before .before .before .take-up .last .1 .1 .1 .1 .0) (c .before .before .before .before .before .before .before .before .before .before .before .before .before .take-up .last .1 .1 .1 .1 .1 .0) (c .before .before .before .before .before .before .before .before .before .before .before .before .before .take-up .last .1 .1 .1 .1 .1 .1 .0) (c .before .before .before .before .before .before .before .before .before .before .before .before .before .take-up .result) (c .before .before .before .before .before .before .before .before .before .before .before .before .before .take-up .ensures) (c .before .before .before .enum-told .given .1) in
-    refused-board t b g (c .refused3 .result .offers) (held (c .before .before .before .before .before .before .before .before .before .before .before .before .before .take-up .last .1 .1 .1 .0) (c .before .before .before .before .before .before .before .before .before .before .before .before .before .take-up .last .1 .1 .1 .1 .0) (c .before .before .before .before .before .before .before .before .before .before .before .before .before .take-up .last .1 .1 .1 .1 .1 .0) (c .before .before .before .before .before .before .before .before .before .before .before .before .before .take-up .last .1 .1 .1 .1 .1 .1 .0)) (seats (a .ends .now) (a .order .now) (a .lens .now) (a .cells .now)) (c .refused3 .result .answer) 7 0 (c .refused3 .ensures)
-    (board-7 t b g (h .0) l (sym (c .before .before .guards-fine .ensures) ∙ not-true _ (c .before .if1 .taken)))
+    let u = c .before .before .before .before .before .before .before .before .before .before .before .before .before .before .before .take-up in
+    let l = live-read t b (u .last .1 .1 .1 .0) (u .last .1 .1 .1 .1 .0) (u .last .1 .1 .1 .1 .1 .0) (u .last .1 .1 .1 .1 .1 .1 .0) (u .result) (u .ensures) (c .before .before .before .before .before .enum-told .given .1) in
+    let q = need-refused 7 (guardsFine t g) _ _ (sym (ap said (c .before .before .number2 .given .1)) ∙ c .before .before .before .before .read-guards .ensures) in
+    refused-board t b g (c .refused3 .result .offers) (held (u .last .1 .1 .1 .0) (u .last .1 .1 .1 .1 .0) (u .last .1 .1 .1 .1 .1 .0) (u .last .1 .1 .1 .1 .1 .1 .0)) (seats (a .ends .now) (a .order .now) (a .lens .now) (a .cells .now)) (c .refused3 .result .answer) _ _ (c .refused3 .ensures)
+    (rw (q .1, q .2) (board-7 t b g (h .0) l (q .0)))
+
+enum-told-3 : tie.Need-enum-told-3
+enum-told-3 c = search needs
 
 seat-requires : tie.Need-seat-requires
-seat-requires c κs = let a = c .before .before .before .before .before .before .before .before .before .before .before .before .before .before .before .before .before .before .before .before .before .before .before .before .before .before .before .before .before .before .before .before .before .before .before .args in
-    let h = c .before .before .before .before .before .before .before .before .before .before .before .before .before .before .before .before .before .before .before .before .before .before .before .before .before .before .before .before .before .before .before .before .before .before .before .pre in
+seat-requires c κs = let a = c .before .before .before .before .before .before .before .before .before .before .before .before .before .before .before .before .before .before .before .before .before .before .before .before .before .before .before .before .before .before .before .before .before .before .before .before .args in
+    let h = c .before .before .before .before .before .before .before .before .before .before .before .before .before .before .before .before .before .before .before .before .before .before .before .before .before .before .before .before .before .before .before .before .before .before .before .before .pre in
     let t = a .t .now in
-    let b = a .b .now in
     let g = a .g .now in
-    let f = sym (c .before .before .before .before .before .before .before .before .guards-fine .ensures) ∙ not-false _ (c .before .before .before .before .before .before .before .if1 .left) in
-    let k = c .before .before .before .before .before .before .before .before .before .before .before .before .before .before .before .before .before .before .before .take-up .kept in
+    let f = need-good 7 (guardsFine t g) (sym (ap said (c .before .before .before .before .before .before .before .enum-told3 .given .1)) ∙ c .before .before .before .before .before .before .before .before .before .read-guards .ensures) in
+    let k = c .before .before .before .before .before .before .before .before .before .before .before .before .before .before .before .before .before .before .before .before .take-up .kept in
     ((h .0, guards-long t g f, omega (arith, h .1 .froms, k), omega (arith, h .1 .kepts, k), omega (arith, h .1 .tokens-there, k)), h .2)
 
 same-length-13 : tie.Need-same-length-13
-same-length-13 c = omega (arith, c .before .before .before .before .before .before .before .before .before .before .before .before .before .before .before .before .before .before .before .before .before .before .before .before .before .before .before .before .take-up .kept, c .before .before .before .before .before .before .before .before .seat .kept)
+same-length-13 c = omega (arith, c .before .before .before .before .before .before .before .before .before .before .before .before .before .before .before .before .before .before .before .before .before .before .before .before .before .before .before .before .before .take-up .kept, c .before .before .before .before .before .before .before .before .seat .kept)
 
 same-length-14 : tie.Need-same-length-14
-same-length-14 c = omega (arith, c .before .before .before .before .before .before .before .before .before .before .before .before .before .before .before .before .before .before .before .before .before .before .before .before .before .before .before .before .take-up .kept, c .before .before .before .before .before .before .before .before .seat .kept)
+same-length-14 c = omega (arith, c .before .before .before .before .before .before .before .before .before .before .before .before .before .before .before .before .before .before .before .before .before .before .before .before .before .before .before .before .before .take-up .kept, c .before .before .before .before .before .before .before .before .seat .kept)
 
 same-length-15 : tie.Need-same-length-15
-same-length-15 c = omega (arith, c .before .before .before .before .before .before .before .before .before .before .before .before .before .before .before .before .before .before .before .before .before .before .before .before .before .before .before .before .take-up .kept, c .before .before .before .before .before .before .before .before .seat .kept)
+same-length-15 c = omega (arith, c .before .before .before .before .before .before .before .before .before .before .before .before .before .before .before .before .before .before .before .before .before .before .before .before .before .before .before .before .before .take-up .kept, c .before .before .before .before .before .before .before .before .seat .kept)
 
 same-length-16 : tie.Need-same-length-16
-same-length-16 c = search needs
+same-length-16 c = omega (arith, c .before .before .before .before .before .before .before .before .before .before .before .before .before .before .before .before .before .before .before .before .before .before .before .before .before .before .before .before .before .take-up .kept, c .before .before .before .before .before .before .before .before .seat .kept)
 
 same-length-17 : tie.Need-same-length-17
 same-length-17 c = search needs
@@ -144,13 +153,13 @@ same-length-20 : tie.Need-same-length-20
 same-length-20 c = search needs
 
 returns-4 : tie.Need-returns-4
-returns-4 c = let a = c .before .before .before .before .before .before .before .before .before .before .before .before .before .before .before .before .before .before .before .before .before .before .before .before .before .before .before .before .before .before .before .before .before .before .before .before .before .before .before .before .before .before .before .before .args in
-    let h = c .before .before .before .before .before .before .before .before .before .before .before .before .before .before .before .before .before .before .before .before .before .before .before .before .before .before .before .before .before .before .before .before .before .before .before .before .before .before .before .before .before .before .before .before .pre in
+returns-4 c = let a = c .before .before .before .before .before .before .before .before .before .before .before .before .before .before .before .before .before .before .before .before .before .before .before .before .before .before .before .before .before .before .before .before .before .before .before .before .before .before .before .before .before .before .before .before .before .args in
     let t = a .t .now in
     let b = a .b .now in
     let g = a .g .now in
-    let l = live-read t b (c .before .before .before .before .before .before .before .before .before .before .before .before .before .before .before .before .before .before .before .before .before .before .before .before .before .before .before .before .take-up .last .1 .1 .1 .0) (c .before .before .before .before .before .before .before .before .before .before .before .before .before .before .before .before .before .before .before .before .before .before .before .before .before .before .before .before .take-up .last .1 .1 .1 .1 .0) (c .before .before .before .before .before .before .before .before .before .before .before .before .before .before .before .before .before .before .before .before .before .before .before .before .before .before .before .before .take-up .last .1 .1 .1 .1 .1 .0) (c .before .before .before .before .before .before .before .before .before .before .before .before .before .before .before .before .before .before .before .before .before .before .before .before .before .before .before .before .take-up .last .1 .1 .1 .1 .1 .1 .0) (c .before .before .before .before .before .before .before .before .before .before .before .before .before .before .before .before .before .before .before .before .before .before .before .before .before .before .before .before .take-up .result) (c .before .before .before .before .before .before .before .before .before .before .before .before .before .before .before .before .before .before .before .before .before .before .before .before .before .before .before .before .take-up .ensures) (c .before .before .before .before .before .before .before .before .before .before .before .before .before .before .before .before .before .before .enum-told .given .1) in
-    c .before .before .before .before .before .before .before .before .seat .ensures (c .before .before .before .before .before .before .before .before .before .before .before .before .before .before .before .before .before .before .before .before .before .before .before .before .before .before .before .before .take-up .last .1 .1 .1 .1 .1 .0) l (sym (c .before .before .before .before .before .before .before .before .before .before .before .before .before .before .before .before .before .guards-fine .ensures) ∙ not-false _ (c .before .before .before .before .before .before .before .before .before .before .before .before .before .before .before .before .if1 .left))
+    let u = c .before .before .before .before .before .before .before .before .before .before .before .before .before .before .before .before .before .before .before .before .before .before .before .before .before .before .before .before .before .take-up in
+    let l = live-read t b (u .last .1 .1 .1 .0) (u .last .1 .1 .1 .1 .0) (u .last .1 .1 .1 .1 .1 .0) (u .last .1 .1 .1 .1 .1 .1 .0) (u .result) (u .ensures) (c .before .before .before .before .before .before .before .before .before .before .before .before .before .before .before .before .before .before .before .enum-told .given .1) in
+    c .before .before .before .before .before .before .before .before .seat .ensures (u .last .1 .1 .1 .1 .1 .0) l (need-good 7 (guardsFine t g) (sym (ap said (c .before .before .before .before .before .before .before .before .before .before .before .before .before .before .before .before .enum-told3 .given .1)) ∙ c .before .before .before .before .before .before .before .before .before .before .before .before .before .before .before .before .before .before .read-guards .ensures))
 
 pub read-spec : {M : Type 1} → statement M
 read-spec =
@@ -172,13 +181,15 @@ read-spec =
     same-length-7
     same-length-8
     returns-2
-    guards-fine-requires
+    read-guards-requires
+    enum-known-number-2
     refused-requires-3
     same-length-9
     same-length-10
     same-length-11
     same-length-12
     returns-3
+    enum-told-3
     seat-requires
     same-length-13
     same-length-14
