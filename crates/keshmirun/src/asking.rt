@@ -44,16 +44,25 @@ fn respond(
         EndsAnswer::Good(n) => n,
         EndsAnswer::Refused(number, place) => return wire::pack(number, place, 0),
     };
-    let offers = board.offers;
     match request {
-        Request::Sheet => listing::show(offers, ends, order, lens, cells, n, out),
-        Request::Pick(node) => picking::pick(t, table, offers, ends, n, runs, kept, node, out),
+        Request::Sheet => listing::show(board.offers, ends, order, lens, cells, n, out),
+        Request::Pick(node) => picking::pick(
+            t,
+            table,
+            board.offers,
+            ends,
+            n,
+            runs,
+            kept,
+            node,
+            out,
+        ),
         Request::Step => stepping::step(
             t,
             table,
             b,
             choice,
-            offers,
+            board.offers,
             ends,
             n,
             from,
