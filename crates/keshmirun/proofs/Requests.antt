@@ -13,10 +13,9 @@ use Rattle.holding.specs.TakenUp.{Held}
 use Rattle.ends.specs.declared.EndsAnswer.{EndsAnswer}
 use Rattle.ends.specs.declared.EndsAnswer.the-variants.{Good, Refused}
 use Rattle.board.specs.Reading.{Seats, SeatsRoom, Laid}
-use Rattle.board.proofs.BoardLaws.{board-refused, read-refusal, read-laid, laid-edges}
+use Rattle.board.proofs.BoardLaws.{board-refused, read-refusal, read-laid}
 use Rattle.listing.specs.Listing.{Shows, sheetShown}
 use Rattle.listing.proofs.Meaning.{sheet-shown, listed-measured}
-use Rattle.picking.specs.Picking.{Pickable}
 use Rattle.stepping.specs.Stepping.{chosen}
 use Rattle.keshmirun.specs.declared.asking.Request.{Request}
 use Rattle.keshmirun.specs.declared.asking.Request.the-variants.{Sheet, Pick as PickFor, Step}
@@ -77,16 +76,4 @@ module _ {t b g : List ℕ} {o : Offers} {x : Held} {s : Seats} {n : ℕ} (l : L
     flags = omega (arith, l .full .haves-full);
     values = omega (arith, l .full .values-full);
     cells-there = r .cells-room;
-  }
-
-  pub laid-pickable : Pickable t o (s .ends) n
-  laid-pickable = record {
-    full = l .full;
-    few-rows = l .seated .holds-ts .fits;
-    few = l .seated .few;
-    rowed = record {
-      many = omega (arith, l .seated .few, r .ends-room);
-      each-inside = λ k m. omega (arith, l .seated .inside k m, l .seated .holds-ts .count-is, l .seated .holds-ts .fits);
-    };
-    edges-inside = laid-edges l;
   }

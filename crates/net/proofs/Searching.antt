@@ -1,11 +1,11 @@
--- The search: what each of its ways to answer finds, and how many states it visits. Assumes nothing.
+-- The search and its scout: what each of their ways to answer finds, and how many states it visits. Assumes nothing.
 use mathlib.Core.Path.{_≡_, refl, sym, ap, _∙_, subst}
 use mathlib.Core.Bool.{Bool, true, false, not, cond}
 use mathlib.Core.Option.{Option, none, some}
 use Prim.Native.Nat.{ℕ, suc, _+_, _*_, _-_, _%_, _^_, _≤_, _<_}
 use native.Mathlib.Nat.{pow-suc, zero-add, add-zero, mod-one}
 use native.Mathlib.Omega.{arith}
-use lib.Pow.{pow-mono, pow-pos}
+use lib.Pow.{pow-mono, pow-pos, pow-add}
 use Rattle.paper.specs.Lists.{has}
 use Rattle.paper.proofs.Bools.{never, false-if}
 use Rattle.paper.proofs.Digits.{in-digit, out-digit, has-none}
@@ -18,9 +18,10 @@ use Rattle.net.specs.declared.Visit.the-variants.{Choice, Nothing}
 use Rattle.net.specs.declared.Found.{Found}
 use Rattle.net.specs.declared.Found.the-variants.{Choice as Found·Choice, Nothing as Found·Nothing}
 use Rattle.net.specs.Net.{Net, meets, passes, Answers}
-use Rattle.net.specs.Bounds.{Keeps, NoneIn, Confined, Placed, stepped, said, seen, Visited}
+use Rattle.net.specs.Bounds.{Keeps, NoneIn, Confined, Placed, stepped, said, seen, Scouted, Visited}
 use Rattle.net.proofs.Sets.{has-all, meets-one}
 use Rattle.net.proofs.Rules.{passes-wider, first-same}
+use Rattle.net.proofs.Pruning.{none-after, probed-in}
 
 -- ---- the search through all sets, by the number of open ends
 look-none : (w : ℕ → Bool) (r k acc : ℕ) → acc < 2 ^ k → ((x : ℕ) → x < 2 ^ (k + r) → x % 2 ^ k ≡ acc → w x ≡ false) → look w r k acc ≡ none
@@ -64,6 +65,40 @@ few-states l m h k = let e : l + 1 ≤ 21 = omega arith in pow-mono e
 pub small-weight : (l m : ℕ) → 1 ≤ l → m ≤ 20 → 2 ^ (m - l) ≤ 524288
 small-weight l m h k = let e : m - l ≤ 19 = omega arith in pow-mono e
 
+-- ---- scouting
+not-sure : (c : ℕ) → some c ≡ none → ⊥
+not-sure c e = let q : _≡_ {A = ℕ} 0 1 = cc in omega arith
+
+-- some set may be there
+pub scouts-alive : (w : ℕ → Bool) (l : ℕ) (b : Bounds) (c : ℕ) → Scouted w l b (Choice c 1)
+scouts-alive w l b c = record { sure = λ e. absurd (not-sure c e); some-seen = omega arith; most-seen = two-more l }
+
+module _ (w : ℕ → Bool) (l : ℕ) (b low : Bounds) (kept : Keeps w b low) where
+  pub scouts-dead : NoneIn w low → Scouted w l b (Nothing 1)
+  scouts-dead h = record { sure = λ e. none-after w b low kept h; some-seen = omega arith; most-seen = two-more l }
+
+  module _ (some-left : 1 ≤ l) (c : Bounds) (f : Visit) (tried : Scouted w (l - 1) c f) where
+    pub scouts-with : (s n : ℕ) → f ≡ Choice s n → Scouted w l b (Choice s (n + 1))
+    scouts-with s n e =
+        let q : seen f ≡ n = ap seen e in
+        let o = tried .most-seen in
+        record { sure = λ e. absurd (not-sure s e); some-seen = omega arith; most-seen = omega (arith, halves l some-left, tried .some-seen) }
+
+    -- nothing with the end, and what is found without it
+    pub scouts-without : (n : ℕ) → f ≡ Nothing n → (end k : ℕ) → end ≡ 2 ^ k → Keeps (λ x. has x k) low c
+        → (o : Bounds) → Keeps (λ x. not (meets 32 x end)) low o → (v : Visit) → Scouted w (l - 1) o v
+        → (t : ℕ) → t ≡ seen f + 1 → (r : Visit) → said r ≡ said v → seen r ≡ t + seen v → Scouted w l b r
+    scouts-without n e end k is-end adds o strikes v rest t q r same more =
+        let g = tried .most-seen in
+        let i = rest .most-seen in
+        record {
+          sure = λ h.
+              none-after w b low kept
+              (none-after w low o (probed-in w low c o end k is-end (tried .sure (ap said e)) adds strikes) (rest .sure (sym same ∙ h)));
+          some-seen = omega arith;
+          most-seen = omega (arith, halves l some-left);
+        }
+
 -- ---- places: the first open end is taken, or left
 abbrev pub taking : Place → Place
 taking p = stepped p (p .bit)
@@ -96,7 +131,8 @@ module _ (m : ℕ) (p : Place) (placed : Placed m p) (some-open : 1 ≤ p .left)
   }
 
 -- ---- ways to answer
-module _ (w : ℕ → Bool) (m : ℕ) (p : Place) (b low : Bounds) (most : m ≤ 20) (placed : Placed m p) (kept : Keeps w b low) where
+module _ (w : ℕ → Bool) (m : ℕ) (p : Place) (b low : Bounds) (most : m ≤ 20) (placed : Placed m p) (kept : Keeps w b low)
+    (here : ℕ) (some-here : 1 ≤ here) (most-here : here ≤ 2097152) where
   abbrev k : ℕ
   k = m - p .left
 
@@ -109,29 +145,29 @@ module _ (w : ℕ → Bool) (m : ℕ) (p : Place) (b low : Bounds) (most : m ≤
   low-too : Confined w m k (p .taken) b → Confined w m k (p .taken) low
   low-too all = λ x l s e. kept x e (all x l s e)
 
-  one-state : 1 < 2 ^ (p .left + 1)
-  one-state = two-more (p .left)
+  few-here : here + 2097152 ≤ 2097152 * 2 ^ (p .left + 1)
+  few-here = omega (arith, two-more (p .left))
 
   -- nothing lies between the bounds
-  pub ends-dead : NoneIn w low → Visited w m p b (Nothing 1)
+  pub ends-dead : NoneIn w low → Visited w m p b (Nothing here)
   ends-dead h = record {
     finds = λ all.
         sym (look-none w (p .left) k (p .taken) small (λ x l s. false-if (w x) (λ e. h x e (low-too all x (rw width at l) s e))));
     some-seen = omega arith;
-    most-seen = one-state;
+    most-seen = few-here;
   }
 
   -- no end is open
-  pub ends-leaf : p .left ≡ 0 → (t : Bool) → t ≡ w (p .taken) → Visited w m p b (cond t (Choice (p .taken) 1) (Nothing 1))
+  pub ends-leaf : p .left ≡ 0 → (t : Bool) → t ≡ w (p .taken) → Visited w m p b (cond t (Choice (p .taken) here) (Nothing here))
   ends-leaf z true e = record {
     finds = λ all. sym (rw z (look-leaf w _ (p .taken) (sym e)));
     some-seen = omega arith;
-    most-seen = one-state;
+    most-seen = few-here;
   }
   ends-leaf z false e = record {
     finds = λ all. sym (rw z (look-leaf-none w _ (p .taken) (sym e)));
     some-seen = omega arith;
-    most-seen = one-state;
+    most-seen = few-here;
   }
 
   module _ (some-open : 1 ≤ p .left) where
@@ -165,7 +201,7 @@ module _ (w : ℕ → Bool) (m : ℕ) (p : Place) (b low : Bounds) (most : m ≤
       looked all = took .finds (confined-in c adds all) ∙ rw (after-k, placed .weight)
 
       -- found with the end
-      pub finds-with : (s n : ℕ) → f ≡ Choice s n → Visited w m p b (Choice s (n + 1))
+      pub finds-with : (s n : ℕ) → f ≡ Choice s n → Visited w m p b (Choice s (n + here))
       finds-with s n e =
           let q : seen f ≡ n = ap seen e in
           let o = took .most-seen in
@@ -180,7 +216,7 @@ module _ (w : ℕ → Bool) (m : ℕ) (p : Place) (b low : Bounds) (most : m ≤
         left-over all = look-leave w (p .left) k (p .taken) some-open (sym (looked all) ∙ ap said e)
 
         -- nothing with the end, and none without it
-        pub finds-none : meets 32 (low .must) (p .bit) ≡ true → (t : ℕ) → t ≡ seen f + 1 → Visited w m p b (Nothing t)
+        pub finds-none : meets 32 (low .must) (p .bit) ≡ true → (t : ℕ) → t ≡ seen f + here → Visited w m p b (Nothing t)
         finds-none h t q =
             let o = took .most-seen in
             record {
@@ -199,7 +235,7 @@ module _ (w : ℕ → Bool) (m : ℕ) (p : Place) (b low : Bounds) (most : m ≤
 
         -- nothing with the end: what is found without it
         pub finds-without : (o : Bounds) → Keeps (λ x. not (meets 32 x (p .bit))) low o → (v : Visit) → Visited w m (leaving p) o v
-            → (t : ℕ) → t ≡ seen f + 1 → (r : Visit) → said r ≡ said v → seen r ≡ t + seen v → Visited w m p b r
+            → (t : ℕ) → t ≡ seen f + here → (r : Visit) → said r ≡ said v → seen r ≡ t + seen v → Visited w m p b r
         finds-without o strikes v left t q r same more =
             let g = took .most-seen in
             let i = left .most-seen in
@@ -211,7 +247,7 @@ module _ (w : ℕ → Bool) (m : ℕ) (p : Place) (b low : Bounds) (most : m ≤
 
     -- the end is struck already
     pub finds-struck : meets 32 (low .may) (p .bit) ≡ false → (o : Bounds) → Keeps (λ x. not (meets 32 x (p .bit))) low o → (v : Visit)
-        → Visited w m (leaving p) o v → (r : Visit) → said r ≡ said v → seen r ≡ 1 + seen v → Visited w m p b r
+        → Visited w m (leaving p) o v → (r : Visit) → said r ≡ said v → seen r ≡ here + seen v → Visited w m p b r
     finds-struck h o strikes v left r same more =
         let i = left .most-seen in
         record {
@@ -244,6 +280,29 @@ placed-start m = record {
 
 pub looks-all : (w : ℕ → Bool) (m : ℕ) → look w m (m - m) 0 ≡ look w m 0 0
 looks-all w m = let e : m - m ≡ 0 = omega arith in ap (λ (k : ℕ). look w m k 0) e
+
+all-states : (m : ℕ) → 2 ^ (m + 22) ≡ 2097152 * 2 ^ (m + 1)
+all-states m = let e : m + 22 ≡ (m + 1) + 21 = omega arith in rw (e, pow-add 2 (m + 1) 21) (omega arith)
+
+module _ (w : ℕ → Bool) (m top : ℕ) (is-top : top ≡ 2 ^ m) where
+  -- the scout finds nothing
+  pub whole-none : (f : Visit) → Scouted w m (record { must = 0; may = top - 1 }) f → (n : ℕ) → f ≡ Nothing n
+      → (none ≡ look w m 0 0) × ((1 ≤ n) × (n < 2 ^ (m + 22)))
+  whole-none f scouted n e =
+      let q : seen f ≡ n = ap seen e in
+      let z : (m - m) + m ≡ m = omega arith in
+      let a = scouted .most-seen in (
+        sym (look-none w m (m - m) 0 (pow-pos (m - m)) (λ x l s. false-if (w x) (λ g. scouted .sure (ap said e) x g (confined-start w m top is-top x (rw z at l) s g)))) ∙ looks-all w m,
+        (omega (arith, scouted .some-seen), omega (arith, all-states m)),
+      )
+
+  -- it leaves the search something to find
+  pub whole-found : (v : Visit) → Visited w m (record { left = m; bit = 1; taken = 0 }) (record { must = 0; may = top - 1 }) v → (n : ℕ) → n < 2 ^ (m + 1) → m ≤ 20
+      → (r : Visit) → said r ≡ said v → seen r ≡ n + seen v → (said r ≡ look w m 0 0) × ((1 ≤ seen r) × (seen r < 2 ^ (m + 22)))
+  whole-found v visited n few most r same more = (
+    same ∙ visited .finds (confined-start w m top is-top) ∙ looks-all w m,
+    (omega (arith, visited .some-seen), omega (arith, all-states m, visited .most-seen, few-states m m (omega arith) most)),
+  )
 
 -- what it finds is the first set that passes, by the ends below m alone
 module _ (net : Net) (m : ℕ) (most : m ≤ 20) where

@@ -1,4 +1,4 @@
--- What pick answers of what the search found on a board, and what the search is lent. Assumes nothing.
+-- What pick answers of what the search found on a board, and what the search is lent of a board that was read. Assumes nothing.
 use mathlib.Core.Path.{_≡_, refl}
 use mathlib.Core.Bool.{true, false}
 use mathlib.Core.List.{List}
@@ -25,6 +25,9 @@ use Rattle.seating.specs.Seating.{Rowed, Seated}
 use Rattle.rules.specs.Rules.{Lent, Answered}
 use Rattle.choosing.specs.Choice.{numbers}
 use Rattle.choosing.proofs.Laws.{taken-numbers}
+use Rattle.holding.specs.TakenUp.{Held}
+use Rattle.board.specs.Reading.{Seats, SeatsRoom, Laid}
+use Rattle.board.proofs.BoardLaws.{laid-edges}
 use Rattle.picking.specs.Picking.{Pickable}
 
 -- ---- on a board
@@ -84,3 +87,16 @@ module _ {t : List ℕ} {x : Table} (e : tableRead t ≡ good x) {o : Offers} {e
 pub fits-empty : {t : List ℕ} {d : Board} {y : Rows} {ts : List Offer} {ends : List ℕ} {n : ℕ} → Seated t d y ts ends n
     → ((i : ℕ) → length (d .current .stock i) ≤ upper t i) → acceptable d 0 ≡ true
 fits-empty {d = d} s h = empty-acceptable d (rw (s .table-is) h)
+
+-- ---- a board that was read
+pub laid-pickable : {t b g : List ℕ} {o : Offers} {x : Held} {s : Seats} {n : ℕ} → Laid t b g o x s n → SeatsRoom s → Pickable t o (s .ends) n
+laid-pickable l r = record {
+  full = l .full;
+  few-rows = l .seated .holds-ts .fits;
+  few = l .seated .few;
+  rowed = record {
+    many = omega (arith, l .seated .few, r .ends-room);
+    each-inside = λ k m. omega (arith, l .seated .inside k m, l .seated .holds-ts .count-is, l .seated .holds-ts .fits);
+  };
+  edges-inside = laid-edges l;
+}

@@ -1,9 +1,10 @@
 // pick on a board: the first acceptable choice, or the first that has an end of the named node, looked for and written.
 // The board's offers and ends are lent as they were read (`Pickable`).
 ghost use mathlib.Core.Path.{_≡_};
-ghost use mathlib.Core.Bool.{true};
+ghost use mathlib.Core.Bool.{true, _&&_};
 ghost use mathlib.Core.List.{List};
-ghost use Prim.Native.Nat.{ℕ, _≤_};
+ghost use Prim.Native.Nat.{ℕ, _+_, _^_, _≤_, _<_};
+ghost use lib.Dec.{leb};
 ghost use lib.ListN.{length};
 ghost use Rattle.paper.specs.Answers.{good};
 ghost use Rattle.paper.specs.Table.{nodes, upper};
@@ -14,11 +15,67 @@ ghost use Rattle.table.specs.Reading.{tableRead};
 ghost use Rattle.flow.specs.Struct.{rowsOf};
 ghost use Rattle.seating.specs.Seating.{Seated};
 ghost use Rattle.seating.proofs.Rules.{Told};
-ghost use Rattle.rules.specs.Rules.{Answered};
+ghost use Rattle.net.specs.Net.{held};
+ghost use Rattle.rules.specs.Rules.{holds, Answered};
 ghost use Rattle.picking.specs.Picking.{Pickable};
 use flow::Offers;
 use net::Found;
+use net::Wanted;
 use table::Table;
+
+// What the search is asked: a net of so many rules, and the ends that are wanted.
+struct Question {
+    rules: usize,
+    want: Wanted,
+}
+
+// The net of a board, in a lent slice, and what is wanted of it.
+fn prepare(
+    t: &[u8],
+    table: Table,
+    offers: Offers,
+    ends: &[u8],
+    n: usize,
+    runs: &[u8],
+    stock: &[u8],
+    node: u8,
+    net: &mut [u32],
+) -> Question
+    requires { ⌜ (tableRead (now t) ≡ good table) × Pickable (now t) offers (now ends) n × (nodes (now t) ≤ length (now runs)) × (nodes (now t) ≤ length (now stock)) × (1024 ≤ length (now net)) ⌝ }
+    ensures { λ r. ⌜ (r .rules ≤ 256) × ((d : Board) (ts : List Offer) → Seated (now (t .entry)) d (rowsOf offers) ts (now (ends .entry)) n → Told (now (t .entry)) (d .current) (now (runs .entry)) (now (stock .entry)) → ((i : ℕ) → length (d .current .stock i) ≤ upper (now (t .entry)) i) → (c : ℕ) → holds (now (net .exit)) (r .rules) n c && leb (r .want .least) (held n c (r .want .ends)) ≡ wanted d node c) ⌝ }
+{
+    let last = offers.last;
+    let mut edge = [0u8; 20];
+    let mut target = [0u8; 20];
+    let mut home = [0u8; 20];
+    seating::columns(t, table, &last, ends, n, &mut edge, &mut target, &mut home);
+    let from = offers.node;
+    let parents = offers.parents;
+    let makers = offers.makers;
+    let foes = offers.foes;
+    let rows = offers.count;
+    let rules = rules::fill(
+        net,
+        t,
+        table,
+        &from,
+        &parents,
+        &makers,
+        &foes,
+        rows,
+        ends,
+        &edge,
+        &target,
+        &home,
+        n,
+        runs,
+        stock,
+    );
+    Question {
+        rules: rules,
+        want: rules::wanted(&target, &home, n, node),
+    }
+}
 
 // The first acceptable choice that has an end of the node, if one is named.
 fn choose(
@@ -34,34 +91,28 @@ fn choose(
     requires { ⌜ (tableRead (now t) ≡ good table) × Pickable (now t) offers (now ends) n × (nodes (now t) ≤ length (now runs)) × (nodes (now t) ≤ length (now stock)) ⌝ }
     ensures { λ r. ⌜ ((d : Board) (ts : List Offer) → Seated (now (t .entry)) d (rowsOf offers) ts (now (ends .entry)) n → Told (now (t .entry)) (d .current) (now (runs .entry)) (now (stock .entry)) → ((i : ℕ) → length (d .current .stock i) ≤ upper (now (t .entry)) i) → Answered (wanted d node) (howMany d) r) ⌝ }
 {
-    let last = offers.last;
-    let mut edge = [0u8; 20];
-    let mut target = [0u8; 20];
-    let mut home = [0u8; 20];
-    seating::columns(t, table, &last, ends, n, &mut edge, &mut target, &mut home);
-    let want = rules::wanted(&target, &home, n, node);
-    let from = offers.node;
-    let parents = offers.parents;
-    let makers = offers.makers;
-    let foes = offers.foes;
-    let rows = offers.count;
-    rules::first(
-        t,
-        table,
-        &from,
-        &parents,
-        &makers,
-        &foes,
-        rows,
-        ends,
-        &edge,
-        &target,
-        &home,
-        n,
-        runs,
-        stock,
-        want,
-    )
+    let mut net = [0u32; 1024];
+    let asked = prepare(t, table, offers, ends, n, runs, stock, node, &mut net);
+    rules::first(&net, asked.rules, asked.want, n)
+}
+
+// How many states the search for that choice visits: what a test can hold down.
+pub fn states(
+    t: &[u8],
+    table: Table,
+    offers: Offers,
+    ends: &[u8],
+    n: usize,
+    runs: &[u8],
+    stock: &[u8],
+    node: u8,
+) -> usize
+    requires { ⌜ (tableRead (now t) ≡ good table) × Pickable (now t) offers (now ends) n × (nodes (now t) ≤ length (now runs)) × (nodes (now t) ≤ length (now stock)) ⌝ }
+    ensures { λ r. ⌜ (1 ≤ r) × (r < 2 ^ (n + 22)) ⌝ }
+{
+    let mut net = [0u32; 1024];
+    let asked = prepare(t, table, offers, ends, n, runs, stock, node, &mut net);
+    rules::states(&net, asked.rules, asked.want, n)
 }
 
 // What pick answers of n ends, where `found` is what was looked for: row 13, or a choice.

@@ -1,5 +1,5 @@
 -- What the search answers is what pick wants of a seated board: the seam between this crate's promises and the paper's. Assumes nothing.
-use mathlib.Core.Path.{_≡_, sym, ap, _∙_, subst}
+use mathlib.Core.Path.{_≡_, sym, ap₂, _∙_, subst}
 use mathlib.Core.Logic.{⊎-elim}
 use mathlib.Core.Bool.{Bool, true, not, _&&_, _||_}
 use mathlib.Core.List.{List}
@@ -22,7 +22,7 @@ use Rattle.net.specs.declared.Found.{Found}
 use Rattle.seating.specs.Seating.{Seated, Columns, served, allowed}
 use Rattle.seating.proofs.Rules.{Told}
 use Rattle.seating.proofs.Allowed.{wanted-rows}
-use Rattle.rules.specs.Rules.{Roomy, Answered}
+use Rattle.rules.specs.Rules.{holds, Roomy, Answered}
 use Rattle.rules.proofs.Rows.{answered-same}
 
 holds-values : (k : ℕ) → isBuffer k || isOutgoing k ≡ true → isObjectNode k ≡ true
@@ -35,15 +35,13 @@ module _ (t : List ℕ) (d : Board) (runs stock : List ℕ) (m : Told t (d .curr
 
   module _ (o : Offers) (ts : List Offer) (ends : List ℕ) (n : ℕ) (s : Seated t d (rowsOf o) ts ends n)
       (edge target home : List ℕ) (k : Columns t (o .last) ends edge target home n) where
-    -- what is asked for the node i, found by `first`, is what pick wants
-    pub picked : (i : ℕ) (want : Wanted) → ((c : ℕ) → leb (want .least) (held n c (want .ends)) ≡ not (named i) || served target home n c i)
-        → (f : Found)
-        → Answered (λ c. allowed t (o .node) (o .parents) (o .makers) (o .foes) ends edge target home runs stock (o .count) n c && leb (want .least) (held n c (want .ends))) n f
-        → Answered (wanted d i) (howMany d) f
-    picked i want w f a =
-        subst (λ (x : ℕ). Answered (wanted d i) x f) (s .number)
-        (answered-same (λ c. allowed t (o .node) (o .parents) (o .makers) (o .foes) ends edge target home runs stock (o .count) n c && leb (want .least) (held n c (want .ends))) (wanted d i) n
-        (λ c.
-        ap (λ (b : Bool). allowed t (o .node) (o .parents) (o .makers) (o .foes) ends edge target home runs stock (o .count) n c && b) (w c)
-        ∙ sym (wanted-rows t d o ts ends n c s edge target home k runs stock m i))
-        f a)
+    -- a net that says what is allowed, with what is asked for the node i, says what pick wants
+    pub sought : (net : List ℕ) (count i : ℕ) (want : Wanted)
+        → ((c : ℕ) → holds net count n c ≡ allowed t (o .node) (o .parents) (o .makers) (o .foes) ends edge target home runs stock (o .count) n c)
+        → ((c : ℕ) → leb (want .least) (held n c (want .ends)) ≡ not (named i) || served target home n c i)
+        → (c : ℕ) → holds net count n c && leb (want .least) (held n c (want .ends)) ≡ wanted d i c
+    sought net count i want h w c = ap₂ (λ (a b : Bool). a && b) (h c) (w c) ∙ sym (wanted-rows t d o ts ends n c s edge target home k runs stock m i)
+
+-- tests that agree have one answer
+pub found-on : (d : Board) (i n : ℕ) → n ≡ howMany d → (p : ℕ → Bool) → ((c : ℕ) → p c ≡ wanted d i c) → (f : Found) → Answered p n f → Answered (wanted d i) (howMany d) f
+found-on d i n e p h f a = subst (λ (x : ℕ). Answered (wanted d i) x f) e (answered-same p (wanted d i) n h f a)

@@ -1,4 +1,4 @@
-// The rules on choices as a net, built once per call, and the first choice that passes it. A row for each end, each row of the offer list that
+// The rules on choices as a net in a lent slice, and the first choice that passes it. A row for each end, each row of the offer list that
 // leaves a fork, each edge into an action, and each node; a row that no end sets off is left out.
 // Words and numbers only: what they mean for offers is said by the laws of seating. Assumes no more than its `requires`.
 ghost use mathlib.Core.Path.{_≡_};
@@ -275,7 +275,7 @@ fn add_nodes(
 }
 
 // The net of a call: how many rules it has. It has room for a row each of 20 ends, 64 offers, 64 edges and 48 nodes.
-fn fill(
+pub fn fill(
     net: &mut [u32],
     t: &[u8],
     table: Table,
@@ -318,7 +318,7 @@ pub fn wanted(target: &[u8], home: &[u8], n: usize, node: u8) -> Wanted
 }
 
 // The first set of n ends that obeys the rules of a net and holds what is wanted.
-fn search(net: &[u32], count: usize, want: Wanted, n: usize) -> Found
+pub fn first(net: &[u32], count: usize, want: Wanted, n: usize) -> Found
     requires { ⌜ (n ≤ 20) × (count ≤ 256) × (1024 ≤ length (now net)) ⌝ }
     ensures { λ r. ⌜ Answered (λ c. holds (now (net .entry)) count n c && leb (want .least) (held n c (want .ends))) n r ⌝ }
 {
@@ -328,96 +328,13 @@ fn search(net: &[u32], count: usize, want: Wanted, n: usize) -> Found
     net::first(net, only, lo, hi, count, want, n)
 }
 
-fn search_states(net: &[u32], count: usize, want: Wanted, n: usize) -> usize
+// How many states that search visits: what a test can hold down.
+pub fn states(net: &[u32], count: usize, want: Wanted, n: usize) -> usize
     requires { ⌜ (n ≤ 20) × (count ≤ 256) × (1024 ≤ length (now net)) ⌝ }
-    ensures { λ r. ⌜ (1 ≤ r) × (r < 2 ^ (n + 1)) ⌝ }
+    ensures { λ r. ⌜ (1 ≤ r) × (r < 2 ^ (n + 22)) ⌝ }
 {
     let only = &net[256..512];
     let lo = &net[512..768];
     let hi = &net[768..1024];
     net::states(net, only, lo, hi, count, want, n)
-}
-
-// The first choice that is allowed and holds what is wanted.
-pub fn first(
-    t: &[u8],
-    table: Table,
-    node: &[u8],
-    parents: &[u64],
-    makers: &[u64],
-    foes: &[u64],
-    rows: usize,
-    ends: &[u8],
-    edge: &[u8],
-    target: &[u8],
-    home: &[u8],
-    n: usize,
-    runs: &[u8],
-    stock: &[u8],
-    want: Wanted,
-) -> Found
-    requires { ⌜ Lent (now t) table (now node) (now parents) (now makers) (now foes) (now ends) (now edge) (now target) (now home) (now runs) (now stock) rows n ⌝ }
-    ensures { λ r. ⌜ (Roomy (now (t .entry)) (now (stock .entry)) → Answered (λ c. allowed (now (t .entry)) (now (node .entry)) (now (parents .entry)) (now (makers .entry)) (now (foes .entry)) (now (ends .entry)) (now (edge .entry)) (now (target .entry)) (now (home .entry)) (now (runs .entry)) (now (stock .entry)) rows n c && leb (want .least) (held n c (want .ends))) n r) ⌝ }
-{
-    let mut net = [0u32; 1024];
-    let count = fill(
-        &mut net,
-        t,
-        table,
-        node,
-        parents,
-        makers,
-        foes,
-        rows,
-        ends,
-        edge,
-        target,
-        home,
-        n,
-        runs,
-        stock,
-    );
-    search(&net, count, want, n)
-}
-
-// How many states that search visits: what a test can hold down.
-pub fn states(
-    t: &[u8],
-    table: Table,
-    node: &[u8],
-    parents: &[u64],
-    makers: &[u64],
-    foes: &[u64],
-    rows: usize,
-    ends: &[u8],
-    edge: &[u8],
-    target: &[u8],
-    home: &[u8],
-    n: usize,
-    runs: &[u8],
-    stock: &[u8],
-    want: Wanted,
-) -> usize
-    requires { ⌜ Lent (now t) table (now node) (now parents) (now makers) (now foes) (now ends) (now edge) (now target) (now home) (now runs) (now stock) rows n ⌝ }
-    ensures { λ r. ⌜ (1 ≤ r) × (r < 2 ^ (n + 1)) ⌝ }
-{
-    let mut net = [0u32; 1024];
-    let count = fill(
-        &mut net,
-        t,
-        table,
-        node,
-        parents,
-        makers,
-        foes,
-        rows,
-        ends,
-        edge,
-        target,
-        home,
-        n,
-        runs,
-        stock,
-    );
-    search_states(&net, count, want, n)
 }

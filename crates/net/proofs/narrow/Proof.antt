@@ -11,8 +11,8 @@ Inv-loop when only lo hi n want m low₀ before₀ after₀ low before after = K
 abbrev μ-loop : tie.MeasureT-loop
 μ-loop when only lo hi n want m low₀ before₀ after₀ low before after = before
 
-settle-requires : tie.Need-settle-requires Inv-loop μ-loop
-settle-requires c κs = search needs
+press-requires : tie.Need-press-requires Inv-loop μ-loop
+press-requires c κs = search needs
 
 slack-requires : tie.Need-slack-requires Inv-loop μ-loop
 slack-requires c κs = search needs
@@ -27,8 +27,8 @@ loop-holds : tie.Need-loop-holds Inv-loop μ-loop
 loop-holds c = let a = c .before .before .before .before .before .before .before .before .args in
     keeps-all (good (a .when .now) (a .only .now) (a .lo .now) (a .hi .now) (a .n) (a .want)) (c .before .probe .result)
 
-settle-requires-2 : tie.Need-settle-requires-2 Inv-loop μ-loop
-settle-requires-2 c κs = search needs
+press-requires-2 : tie.Need-press-requires-2 Inv-loop μ-loop
+press-requires-2 c κs = search needs
 
 probe-requires-2 : tie.Need-probe-requires-2 Inv-loop μ-loop
 probe-requires-2 c κs = search needs
@@ -42,7 +42,7 @@ loop-less c = search needs
 loop-again : tie.Need-loop-again Inv-loop μ-loop
 loop-again c = let a = c .before .before .before .before .before .before .before .before .before .before .before .before .before .args in
     let l = c .before .before .before .before .loop in
-    let s = c .before .before .settle2 in
+    let s = c .before .before .press2 in
     let p = c .before .probe2 in
     let g = good (a .when .now) (a .only .now) (a .lo .now) (a .hi .now) (a .n) (a .want) in
     keeps-then g (c .before .before .before .before .before .before .probe .result) (l .low) (p .result) (l .inv) (keeps-then g (l .low) (s .result) (p .result) (s .ensures) (p .ensures))
@@ -50,7 +50,7 @@ loop-again c = let a = c .before .before .before .before .before .before .before
 returns : tie.Need-returns Inv-loop μ-loop
 returns c = let a = c .before .before .before .before .before .before .before .before .before .before .args in
     let l = c .before .loop in
-    let s = c .before .before .before .before .before .settle in
+    let s = c .before .before .before .before .before .press in
     let p = c .before .before .before .probe in
     let g = good (a .when .now) (a .only .now) (a .lo .now) (a .hi .now) (a .n) (a .want) in
     keeps-then g (a .b) (s .result) (l .low) (s .ensures) (keeps-then g (s .result) (p .result) (l .low) (p .ensures) (l .inv))
@@ -61,12 +61,12 @@ narrow-spec =
     (tie.spec
     Inv-loop
     μ-loop
-    settle-requires
+    press-requires
     slack-requires
     probe-requires
     slack-requires-2
     loop-holds
-    settle-requires-2
+    press-requires-2
     probe-requires-2
     slack-requires-3
     loop-less

@@ -1,31 +1,54 @@
--- `rules::first` meets its contract: what the net says is what is allowed. Assumes nothing.
-use mathlib.Core.Path.{ap}
-use mathlib.Core.Bool.{Bool, _&&_}
-use lib.Dec.{leb}
+-- `rules::first` meets its contract: the parts of the net are its columns. Assumes nothing.
 use borrow.Author.Needs.{needs}
-use Rattle.net.specs.Net.{held}
-use Rattle.rules.proofs.Rows.{answered-same}
+use Rattle.rules.proofs.Rows.{answers-holds}
 use Rattle.rules.proofs.first.Statement.{statement}
 use Rattle.rules.proofs.first.Tie as tie
 
-slice-aggregate-fill : tie.Need-slice-aggregate-fill
-slice-aggregate-fill c = search needs
+sub-only : tie.Need-sub-only
+sub-only c = search needs
 
-fill-requires : tie.Need-fill-requires
-fill-requires c κs = search needs
+part-only-start : tie.Need-part-only-start
+part-only-start c = search needs
 
-slice-aggregate-search : tie.Need-slice-aggregate-search
-slice-aggregate-search c = search needs
+part-only-end : tie.Need-part-only-end
+part-only-end c = search needs
 
-search-requires : tie.Need-search-requires
-search-requires c κs = search needs
+sub-lo : tie.Need-sub-lo
+sub-lo c = search needs
+
+part-lo-start : tie.Need-part-lo-start
+part-lo-start c = search needs
+
+part-lo-end : tie.Need-part-lo-end
+part-lo-end c = search needs
+
+sub-hi : tie.Need-sub-hi
+sub-hi c = search needs
+
+part-hi-start : tie.Need-part-hi-start
+part-hi-start c = search needs
+
+part-hi-end : tie.Need-part-hi-end
+part-hi-end c = search needs
+
+first-requires : tie.Need-first-requires
+first-requires c κs = search needs
 
 returns : tie.Need-returns
-returns c = λ room.
-    let w = c .before .before .before .before .before .before .before .before .before .before .before .before .before .before .before .before .args .want in
-    answered-same _ _ _ (λ x. ap (λ (b : Bool). b && leb (w .least) (held (c .before .before .before .before .before .before .before .before .before .before .before .before .before .before .before .before .args .n) x (w .ends))) (c .before .before .before .fill .ensures .1 room x)) _ (c .search .ensures)
+returns c = let a = c .before .before .before .before .before .args in answers-holds (a .net .now) (a .count) (c .before .before .before .before .before .pre .1) (a .want) (a .n) _ (c .first .ensures)
 
 pub first-spec : {M : Type 1} → statement M
 first-spec =
     tie.close
-    (tie.spec slice-aggregate-fill fill-requires slice-aggregate-search search-requires returns)
+    (tie.spec
+    sub-only
+    part-only-start
+    part-only-end
+    sub-lo
+    part-lo-start
+    part-lo-end
+    sub-hi
+    part-hi-start
+    part-hi-end
+    first-requires
+    returns)

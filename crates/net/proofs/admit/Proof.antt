@@ -1,0 +1,23 @@
+-- `admit`: a group grows by a common rival. Assumes nothing.
+use mathlib.Core.Path.{sym, _∙_}
+use borrow.Author.Tests.{not-false}
+use Rattle.net.proofs.Crowding.{huddled-more}
+use borrow.Author.Needs.{needs}
+use Rattle.net.proofs.admit.Statement.{statement}
+use Rattle.net.proofs.admit.Tie as tie
+
+only-end-requires : tie.Need-only-end-requires
+only-end-requires c κs = search needs
+
+meets-requires : tie.Need-meets-requires
+meets-requires c κs = search needs
+
+returns : tie.Need-returns
+returns c = search needs
+
+returns-2 : tie.Need-returns-2
+returns-2 c = let a = c .before .before .before .before .before .args in
+    λ p s h. huddled-more p (a .h) (a .foes) (a .k) (c .before .before .before .before .only-end .result) (c .before .before .before .before .before .pre) (c .before .before .before .before .only-end .ensures) (sym (c .before .before .before .meets .ensures) ∙ not-false _ (c .before .before .if1 .left)) s h
+
+pub admit-spec : {M : Type 1} → statement M
+admit-spec = tie.close (tie.spec only-end-requires meets-requires returns returns-2)

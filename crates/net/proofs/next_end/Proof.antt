@@ -1,0 +1,74 @@
+-- `next_end`: a hint, proved safe. Assumes nothing.
+use Prim.Native.Nat.{_-_, _≤_}
+use borrow.Author.Needs.{needs}
+use Rattle.net.proofs.next_end.Statement.{statement}
+use Rattle.net.proofs.next_end.Tie as tie
+
+abbrev Inv-loop : tie.InvT-loop
+Inv-loop when only lo n b few₀ i₀ few i = i ≤ n
+
+abbrev μ-loop : tie.MeasureT-loop
+μ-loop when only lo n b few₀ i₀ few i = n - i
+
+lacked-requires : tie.Need-lacked-requires Inv-loop μ-loop
+lacked-requires c κs = search needs
+
+loop-holds : tie.Need-loop-holds Inv-loop μ-loop
+loop-holds c = search needs
+
+mul-lacking : tie.Need-mul-lacking Inv-loop μ-loop
+mul-lacking c = search needs
+
+shared-slice-read-lacking : tie.Need-shared-slice-read-lacking Inv-loop μ-loop
+shared-slice-read-lacking c = search needs
+
+mul-lacking-2 : tie.Need-mul-lacking-2 Inv-loop μ-loop
+mul-lacking-2 c = search needs
+
+shared-slice-read-lacking-2 : tie.Need-shared-slice-read-lacking-2 Inv-loop μ-loop
+shared-slice-read-lacking-2 c = search needs
+
+mul-lacking-3 : tie.Need-mul-lacking-3 Inv-loop μ-loop
+mul-lacking-3 c = search needs
+
+shared-slice-read-lacking-3 : tie.Need-shared-slice-read-lacking-3 Inv-loop μ-loop
+shared-slice-read-lacking-3 c = search needs
+
+lacking-requires : tie.Need-lacking-requires Inv-loop μ-loop
+lacking-requires c κs = search needs
+
+smaller-requires : tie.Need-smaller-requires Inv-loop μ-loop
+smaller-requires c κs = search needs
+
+add-i : tie.Need-add-i Inv-loop μ-loop
+add-i c = search needs
+
+loop-less : tie.Need-loop-less Inv-loop μ-loop
+loop-less c = search needs
+
+loop-again : tie.Need-loop-again Inv-loop μ-loop
+loop-again c = search needs
+
+returns : tie.Need-returns Inv-loop μ-loop
+returns c = search needs
+
+pub next-end-spec : {M : Type 1} → statement M
+next-end-spec =
+    tie.close
+    (tie.spec
+    Inv-loop
+    μ-loop
+    lacked-requires
+    loop-holds
+    mul-lacking
+    shared-slice-read-lacking
+    mul-lacking-2
+    shared-slice-read-lacking-2
+    mul-lacking-3
+    shared-slice-read-lacking-3
+    lacking-requires
+    smaller-requires
+    add-i
+    loop-less
+    loop-again
+    returns)

@@ -1,0 +1,95 @@
+-- `survey`: the scout who finds nothing with the end has it struck. Assumes nothing.
+use mathlib.Core.Path.{ap}
+use native.Mathlib.Omega.{arith}
+use Rattle.net.specs.Bounds.{good, said, seen}
+use Rattle.net.proofs.Pruning.{keeps-then, probed-in}
+use Rattle.net.proofs.Searching.{few-states}
+use borrow.Author.Needs.{needs}
+use Rattle.net.proofs.survey.Statement.{statement}
+use Rattle.net.proofs.survey.Tie as tie
+
+narrow-requires : tie.Need-narrow-requires
+narrow-requires c κs = search needs
+
+without-requires : tie.Need-without-requires
+without-requires c κs = search needs
+
+meets-requires : tie.Need-meets-requires
+meets-requires c κs = search needs
+
+returns : tie.Need-returns
+returns c = search needs
+
+add-requires : tie.Need-add-requires
+add-requires c κs = search needs
+
+scout-requires : tie.Need-scout-requires
+scout-requires c κs = search needs
+
+enum-known-c : tie.Need-enum-known-c
+enum-known-c c = search needs
+
+add-t21 : tie.Need-add-t21
+add-t21 c = let a = c .before .before .before .before .before .before .before .before .before .before .before .before .before .args in
+    let v = c .before .before .before .scout .ensures .most-seen in
+    let e = ap seen (c .before .c .given .1) in
+    let s = few-states (a .m) (a .m) (omega arith) (c .before .before .before .before .before .before .before .before .before .before .before .before .before .pre .0) in
+    omega arith
+
+enum-known-more : tie.Need-enum-known-more
+enum-known-more c = search needs
+
+strike-requires : tie.Need-strike-requires
+strike-requires c κs = search needs
+
+add-t23 : tie.Need-add-t23
+add-t23 c = let a = c .before .before .before .before .before .before .before .before .before .before .before .before .before .before .args in
+    let v = c .before .before .before .before .scout .ensures .most-seen in
+    let e = ap seen (c .before .before .more .given .1) in
+    let s = few-states (a .m) (a .m) (omega arith) (c .before .before .before .before .before .before .before .before .before .before .before .before .before .before .pre .0) in
+    omega arith
+
+returns-2 : tie.Need-returns-2
+returns-2 c = let a = c .before .before .before .before .before .before .before .before .before .before .before .before .before .args in
+    let v = c .before .before .before .scout .ensures in
+    let e = ap seen (c .before .c .given .1) in
+    let s = few-states (a .m) (a .m) (omega arith) (c .before .before .before .before .before .before .before .before .before .before .before .before .before .pre .0) in
+    let few = v .most-seen in
+    record { keeps = λ k q. c .before .before .before .before .before .before .before .before .narrow .ensures; some-seen = omega arith; most-seen = omega arith }
+
+returns-3 : tie.Need-returns-3
+returns-3 c = let a = c .before .before .before .before .before .before .before .before .before .before .before .before .before .before .args in
+    let v = c .before .before .before .before .scout .ensures in
+    let e = c .before .before .more .given .1 in
+    let n = ap seen e in
+    let s = few-states (a .m) (a .m) (omega arith) (c .before .before .before .before .before .before .before .before .before .before .before .before .before .before .pre .0) in
+    let few = v .most-seen in
+    let low = c .before .before .before .before .before .before .before .before .before .narrow in
+    let with = c .before .before .before .before .before .add in
+    let out = c .strike in
+    let g = good (a .when .now) (a .only .now) (a .lo .now) (a .hi .now) (a .n) (a .want) in
+    record {
+      keeps = λ k q.
+          keeps-then g (a .b) (low .result) (out .result) (low .ensures)
+          (probed-in g (low .result) (with .result) (out .result) (a .end) k q (v .sure (ap said e)) (with .ensures k q) (out .ensures));
+      some-seen = omega arith;
+      most-seen = omega arith;
+    }
+
+pub survey-spec : {M : Type 1} → statement M
+survey-spec =
+    tie.close
+    (tie.spec
+    narrow-requires
+    without-requires
+    meets-requires
+    returns
+    add-requires
+    scout-requires
+    enum-known-c
+    add-t21
+    enum-known-more
+    strike-requires
+    add-t23
+    returns-2
+    returns-3)
