@@ -1,7 +1,8 @@
 // Reads calls as bytes from standard input and writes each answer as a line, so that outside vectors can be held to the library.
 //
-// A call is its operation (0 check, 1 start, 2 sheet, 3 pick, 4 step, 5 finish), the room to lend (2 bytes), a node or action (1 byte), then four slices, each a 2-byte length and its bytes: table, marking,
+// A call is its operation (0 check, 1 start, 2 sheet, 3 pick, 4 step, 5 finish, 6 visits), the room to lend (2 bytes), a node or action (1 byte), then four slices, each a 2-byte length and its bytes: table, marking,
 // guards or values, choice. What an operation doesn't take is empty. A line is the refusal, the place and the reply in hex, `-` where it is empty.
+// visits takes what pick does, and its line is `visits` and how many states the search visits: a search that gets worse is seen here.
 ghost use Prim.Native.Nat.{_≤_, _<_};
 ghost use lib.ListN.{length};
 use libc::STDIN_FILENO;
@@ -19,6 +20,8 @@ const PICK: u8 = 3;
 const STEP: u8 = 4;
 
 const FINISH: u8 = 5;
+
+const VISITS: u8 = 6;
 
 fn number(n: u64) {
     io::print_decimal(STDOUT_FILENO, n);
@@ -58,6 +61,13 @@ fn line(word: u64, out: &[u8]) {
     if n <= out.len() {
         hex(&out[..n]);
     }
+    io::write_all(STDOUT_FILENO, b"\n");
+}
+
+// The number of states as a line.
+fn visited(states: usize) {
+    io::write_all(STDOUT_FILENO, b"visits ");
+    io::print_decimal(STDOUT_FILENO, states as u64);
     io::write_all(STDOUT_FILENO, b"\n");
 }
 
@@ -102,6 +112,10 @@ fn answer(
     }
     if operation == FINISH {
         line(keshmirun::finish(table, marking, node, values, out), out);
+        return;
+    }
+    if operation == VISITS {
+        visited(visits::visits(table, marking, values, node));
         return;
     }
     line(keshmirun::check(table), out);

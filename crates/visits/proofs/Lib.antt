@@ -1,0 +1,2 @@
+-- Laws of the measure.
+pub mod Laws

@@ -1,0 +1,2 @@
+-- What is promised of the measure.
+pub mod Counting
