@@ -22,7 +22,7 @@ use Rattle.table.proofs.Reading.{read-refused, read-fine, read-good}
 use Rattle.marking.specs.Values.{isListed, listedNodes}
 use Rattle.holding.specs.Holding.{Fires}
 use Rattle.holding.specs.Giving.{giveOf}
-use Rattle.keshmirun.specs.Delivered.{Deliverable, delivered}
+use Rattle.delivering.specs.Delivered.{Deliverable, delivered}
 
 -- ---- check
 pub check-refused : (t : List ℕ) (n p : ℕ) → tableRead t ≡ refused n p → refused n p ≡ check t

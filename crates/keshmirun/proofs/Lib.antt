@@ -1,6 +1,5 @@
 -- Laws of the operations' ladders.
 pub mod Ladders
-pub mod Delivering
 pub mod Finishing
 pub mod Requests
 pub mod PickSteps

@@ -1,7 +1,7 @@
--- What sheet, pick and step answer of a board that was read: its refusals, and what each function leaves. Assumes nothing.
+-- What each request leaves of a board that was read: its refusals, and what each function answers. Assumes nothing.
 use mathlib.Core.Path.{_≡_, refl, sym}
 use mathlib.Core.List.{List}
-use Prim.Native.Nat.{ℕ, _≤_}
+use Prim.Native.Nat.{ℕ, _+_, _^_, _≤_, _<_}
 use native.Mathlib.Omega.{arith}
 use lib.ListN.{length}
 use Rattle.paper.specs.Answers.{Answer, refused, good, _>>=_}
@@ -18,28 +18,26 @@ use Rattle.listing.specs.Listing.{Shows, sheetShown}
 use Rattle.listing.proofs.Meaning.{sheet-shown, listed-measured}
 use Rattle.stepping.specs.Stepping.{chosen}
 use Rattle.keshmirun.specs.declared.asking.Request.{Request}
-use Rattle.keshmirun.specs.declared.asking.Request.the-variants.{Sheet, Pick as PickFor, Step}
-use Rattle.keshmirun.specs.Asking.{Asked, Read}
+use Rattle.keshmirun.specs.declared.asking.Request.the-variants.{Sheet, Pick as PickFor, Step, Count}
+use Rattle.keshmirun.specs.Asking.{Counted, Responds, Read}
 
 module _ (t b g ks : List ℕ) where
   -- ---- rows 1 to 8
-  refused-allowed : (q : Request) (n p : ℕ) → board t b g ≡ refused n p → Asked q t b g ks (refused n p)
-  unfolding sheet Pick step
-  refused-allowed Sheet n p e = sym (rw e)
-  refused-allowed (PickFor i) n p e = rw e refl
-  refused-allowed Step n p e = sym (rw e)
+  pub asked-refused : (q : Request) (n p w : ℕ) (out : List ℕ) → board t b g ≡ refused n p → w ≡ packed n p 0 → Responds q t b g ks w out out
+  unfolding sheet Pick step Counted
+  asked-refused Sheet n p w out e h = record { answer = refused n p; allowed = sym (rw e); reply = (h, refl) }
+  asked-refused (PickFor i) n p w out e h = record { answer = refused n p; allowed = rw e refl; reply = (h, refl) }
+  asked-refused Step n p w out e h = record { answer = refused n p; allowed = sym (rw e); reply = (h, refl) }
+  asked-refused (Count i) n p w out e h = (rw e h, refl)
 
-  pub asked-refused : (q : Request) (n p w : ℕ) (out : List ℕ) → board t b g ≡ refused n p → w ≡ packed n p 0 → Leaves (Asked q t b g ks) w out out
-  asked-refused q n p w out e h = record { answer = refused n p; allowed = refused-allowed q n p e; reply = (h, refl) }
-
-  pub table-refused : (q : Request) (n p w : ℕ) (out : List ℕ) → tableRead t ≡ refused n p → w ≡ packed n p 0 → Leaves (Asked q t b g ks) w out out
+  pub table-refused : (q : Request) (n p w : ℕ) (out : List ℕ) → tableRead t ≡ refused n p → w ≡ packed n p 0 → Responds q t b g ks w out out
   table-refused q n p w out e h = asked-refused q n p w out (board-refused t b g n p e) h
 
   -- ---- on a board
   module _ {o : Offers} {x : Held} {s : Seats} {n : ℕ} (l : Laid t b g o x s n) (q : Request) (w : ℕ) (out after : List ℕ) where
     pub sheet-leaves : q ≡ Sheet → 2560 ≤ length (s .cells)
         → Reply (inRoom (length out) (good (sheetShown (o .last) (o .has) (o .value) (o .paths) (s .ends) (s .order) (s .lens) (s .cells) n))) w out after
-        → Leaves (Asked q t b g ks) w out after
+        → Responds q t b g ks w out after
     unfolding sheet
     sheet-leaves e room h =
         rw e
@@ -49,17 +47,21 @@ module _ (t b g ks : List ℕ) where
           reply = h;
         })
 
-    pub pick-leaves : (i : ℕ) → q ≡ PickFor i → Leaves (PickOn (l .on) i) w out after → Leaves (Asked q t b g ks) w out after
+    pub pick-leaves : (i : ℕ) → q ≡ PickFor i → Leaves (PickOn (l .on) i) w out after → Responds q t b g ks w out after
     unfolding Pick
     pick-leaves i e h = rw e (record { answer = h .answer; allowed = rw (l .is-board) (h .allowed); reply = h .reply })
 
-    pub step-leaves : q ≡ Step → Reply (inRoom (length out) (chosen t (l .on) ks)) w out after → Leaves (Asked q t b g ks) w out after
+    pub step-leaves : q ≡ Step → Reply (inRoom (length out) (chosen t (l .on) ks)) w out after → Responds q t b g ks w out after
     unfolding step chosen
     step-leaves e h = rw e (record { answer = chosen t (l .on) ks; allowed = sym (rw (l .is-board)); reply = h })
 
+    pub count-leaves : (i : ℕ) → q ≡ Count i → (1 ≤ w) × (w < 2 ^ (n + 22)) → Responds q t b g ks w out out
+    unfolding Counted
+    count-leaves i e h = rw e (rw (l .is-board, ← l .seated .number) h, refl)
+
 -- ---- what the board's reader answered, taken apart
 module _ {t b : List ℕ} {o : Offers} {x : Held} {s : Seats} {r : EndsAnswer} (y : Read t b o x s r) where
-  pub read-refused : (ks : List ℕ) (q : Request) (n p w : ℕ) (out : List ℕ) → r ≡ Refused n p → w ≡ packed n p 0 → Leaves (Asked q t b (y .guards) ks) w out out
+  pub read-refused : (ks : List ℕ) (q : Request) (n p w : ℕ) (out : List ℕ) → r ≡ Refused n p → w ≡ packed n p 0 → Responds q t b (y .guards) ks w out out
   read-refused ks q n p w out e h = asked-refused t b (y .guards) ks q n p w out (read-refusal t b (y .guards) o x s r (y .is-read) n p e) h
 
   pub laid-in : (n : ℕ) → r ≡ Good n → Laid t b (y .guards) o x s n

@@ -1,19 +1,27 @@
--- What is asked about a board, and which answers the paper allows. Assumes nothing.
-use Prim.Native.Nat.{ℕ}
+-- What is asked about a board, and what the paper lets each request leave. Assumes nothing.
+use Prim.Native.Nat.{ℕ, _+_, _^_, _≤_, _<_}
+use mathlib.Core.Path.{_≡_}
 use mathlib.Core.List.{List}
-use Rattle.paper.specs.Answers.{Answer}
-use Rattle.paper.specs.Operations.{Only, sheet, Pick, step}
+use Rattle.paper.specs.Answers.{Answer, refused, good}
+use Rattle.paper.specs.Choices.{Board, board, howMany}
+use Rattle.paper.specs.Operations.{Leaves, Only, packed, sheet, Pick, step}
 use Rattle.flow.specs.declared.Offers.{Offers}
 use Rattle.ends.specs.declared.EndsAnswer.{EndsAnswer}
 use Rattle.holding.specs.TakenUp.{Held}
 use Rattle.board.specs.Reading.{Seats, BoardRead}
 use Rattle.keshmirun.specs.declared.asking.Request.{Request}
-use Rattle.keshmirun.specs.declared.asking.Request.the-variants.{Sheet, Pick as PickFor, Step}
+use Rattle.keshmirun.specs.declared.asking.Request.the-variants.{Sheet, Pick as PickFor, Step, Count}
 
-abbrev pub Asked : Request → List ℕ → List ℕ → List ℕ → List ℕ → Answer (List ℕ) → Type 0
-Asked Sheet t b g ks = Only (sheet t b g)
-Asked (PickFor i) t b g ks = Pick t b g i
-Asked Step t b g ks = Only (step t b g ks)
+-- how many states pick's search visits, within a range only: a measure, and no answer of an operation
+unfoldable pub Counted : Answer Board → ℕ → Type 0
+Counted (refused k p) word = word ≡ packed k p 0
+Counted (good d) word = (1 ≤ word) × (word < 2 ^ (howMany d + 22))
+
+abbrev pub Responds : Request → (t b g ks : List ℕ) → ℕ → (before after : List ℕ) → Type 0
+Responds Sheet t b g ks word before after = Leaves (Only (sheet t b g)) word before after
+Responds (PickFor i) t b g ks word before after = Leaves (Pick t b g i) word before after
+Responds Step t b g ks word before after = Leaves (Only (step t b g ks)) word before after
+Responds (Count i) t b g ks word before after = Counted (board t b g) word × (after ≡ before)
 
 -- what board::read answered, under some guards
 pub record Read (t b : List ℕ) (o : Offers) (x : Held) (s : Seats) (r : EndsAnswer) : Type 0 where

@@ -1,4 +1,2 @@
--- What start and finish share, what finish asks of an action, and what is asked about a board.
-pub mod Delivered
-pub mod Running
+-- What is asked about a board.
 pub mod Asking

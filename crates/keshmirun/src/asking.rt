@@ -1,21 +1,21 @@
-// What is asked about a board, by sheet, pick and step: the board is read once, for whichever of them asks.
+// What is asked about a board, by sheet, pick and step: the board is read once, for whichever of them asks. How far pick searches is asked here too.
 // The table's bytes were read as a table.
 use board::Board;
 use ends::EndsAnswer;
 use table::Table;
 ghost use mathlib.Core.Path.{_≡_};
 ghost use Rattle.paper.specs.Answers.{good};
-ghost use Rattle.paper.specs.Operations.{Leaves};
 ghost use Rattle.table.specs.Reading.{tableRead};
 ghost use Rattle.holding.specs.TakenUp.{held, HeldRoom};
 ghost use Rattle.board.specs.Reading.{seats, SeatsRoom};
-ghost use Rattle.keshmirun.specs.Asking.{Asked, Read};
+ghost use Rattle.keshmirun.specs.Asking.{Responds, Read};
 
-// The sheet, the pick for a node, or the step by a choice.
+// The sheet, the pick for a node, the step by a choice, or how many states the pick for a node visits.
 pub enum Request {
     Sheet,
     Pick(u8),
     Step,
+    Count(u8),
 }
 
 // What the board's reader refused, or the answer.
@@ -37,7 +37,7 @@ fn respond(
     out: &mut [u8],
 ) -> u64
     requires { ⌜ (tableRead (now t) ≡ good table) × HeldRoom (now t) (held (now from) (now kept) (now runs) (now tokens)) × SeatsRoom (seats (now ends) (now order) (now lens) (now cells)) × Read (now t) (now b) (board .offers) (held (now from) (now kept) (now runs) (now tokens)) (seats (now ends) (now order) (now lens) (now cells)) (board .answer) ⌝ }
-    ensures { λ r. ⌜ ((y : Read (now (t .entry)) (now (b .entry)) (board .offers) (held (now (from .entry)) (now (kept .entry)) (now (runs .entry)) (now (tokens .entry))) (seats (now (ends .entry)) (now (order .entry)) (now (lens .entry)) (now (cells .entry))) (board .answer)) → Leaves (Asked request (now (t .entry)) (now (b .entry)) (y .guards) (now (choice .entry))) r (now (out .entry)) (now (out .exit))) ⌝ }
+    ensures { λ r. ⌜ ((y : Read (now (t .entry)) (now (b .entry)) (board .offers) (held (now (from .entry)) (now (kept .entry)) (now (runs .entry)) (now (tokens .entry))) (seats (now (ends .entry)) (now (order .entry)) (now (lens .entry)) (now (cells .entry))) (board .answer)) → Responds request (now (t .entry)) (now (b .entry)) (y .guards) (now (choice .entry)) r (now (out .entry)) (now (out .exit))) ⌝ }
 {
     let answer = board.answer;
     let n = match answer {
@@ -71,6 +71,16 @@ fn respond(
             tokens,
             out,
         ),
+        Request::Count(node) => picking::states(
+            t,
+            table,
+            board.offers,
+            ends,
+            n,
+            runs,
+            kept,
+            node,
+        ) as u64,
     }
 }
 
@@ -85,7 +95,7 @@ pub fn ask(
     out: &mut [u8],
 ) -> u64
     requires { ⌜ tableRead (now t) ≡ good table ⌝ }
-    ensures { λ r. ⌜ Leaves (Asked request (now (t .entry)) (now (b .entry)) (now (g .entry)) (now (choice .entry))) r (now (out .entry)) (now (out .exit)) ⌝ }
+    ensures { λ r. ⌜ Responds request (now (t .entry)) (now (b .entry)) (now (g .entry)) (now (choice .entry)) r (now (out .entry)) (now (out .exit)) ⌝ }
 {
     let mut from = [0usize; Table::MOST_NODES];
     let mut kept = [0u8; Table::MOST_NODES];

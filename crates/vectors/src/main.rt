@@ -65,9 +65,9 @@ fn line(word: u64, out: &[u8]) {
 }
 
 // The number of states as a line.
-fn visited(states: usize) {
+fn visited(states: u64) {
     io::write_all(STDOUT_FILENO, b"visits ");
-    io::print_decimal(STDOUT_FILENO, states as u64);
+    io::print_decimal(STDOUT_FILENO, states);
     io::write_all(STDOUT_FILENO, b"\n");
 }
 
@@ -115,7 +115,7 @@ fn answer(
         return;
     }
     if operation == VISITS {
-        visited(visits::visits(table, marking, values, node));
+        visited(keshmirun::visits(table, marking, values, node));
         return;
     }
     line(keshmirun::check(table), out);

@@ -6,8 +6,9 @@ use Rattle.table.specs.Reading.{said}
 use Rattle.table.proofs.Reading.{read-spans, most-nodes, most-edges}
 use Rattle.holding.proofs.TakenUp.{live-read, lent-room}
 use Rattle.board.proofs.NeedLaws.{need-good}
-use Rattle.keshmirun.specs.Running.{said as saidOfRunning, runsIn}
-use Rattle.keshmirun.proofs.Finishing.{running-node, finish-refused, finish-5, finish-6, finish-14, finish-delivers}
+use Rattle.delivering.specs.Running.{said as saidOfRunning, runsIn}
+use Rattle.delivering.proofs.RunningLaws.{running-node}
+use Rattle.keshmirun.proofs.Finishing.{finish-refused, finish-5, finish-6, finish-14, finish-delivers}
 use borrow.Author.Needs.{needs}
 use Rattle.keshmirun.proofs.finish.Statement.{statement}
 use Rattle.keshmirun.proofs.finish.Tie as tie

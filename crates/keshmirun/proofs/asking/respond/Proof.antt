@@ -3,7 +3,7 @@ use Rattle.paper.proofs.Bytes.{Bytes}
 use Rattle.board.proofs.BoardLaws.{laid-told, stocks-fit}
 use Rattle.picking.proofs.Laws.{laid-pickable}
 use Rattle.stepping.proofs.Laws.{laid-standing, standing-reply}
-use Rattle.keshmirun.proofs.Requests.{sheet-leaves, pick-leaves, step-leaves, read-refused, laid-in, laid-shows}
+use Rattle.keshmirun.proofs.Requests.{sheet-leaves, pick-leaves, step-leaves, count-leaves, read-refused, laid-in, laid-shows}
 use borrow.Author.Needs.{needs}
 use Rattle.keshmirun.proofs.asking.respond.Statement.{statement}
 use Rattle.keshmirun.proofs.asking.respond.Tie as tie
@@ -41,6 +41,12 @@ step-requires c κs = let a = c .before .before .before .before .before .before 
     let h = c .before .before .before .before .before .before .before .before .before .before .before .before .before .before .before .before .before .before .before .before .before .before .pre in
     let u : Bytes (a .b .now) = λ i. (c .before .before .before .before .before .before .before .before .before .before .before .before .before .before .before .before .before .before .before .before .shared-slice-known2 .given i) .fits in
     (h .0, h .1, h .2 .ends-room, laid-standing (laid-in (h .3) _ (c .before .before .before .before .before .before .before .before .answer .given .1)) u)
+
+enum-known-request-2 : tie.Need-enum-known-request-2
+enum-known-request-2 c = search needs
+
+states-requires : tie.Need-states-requires
+states-requires c κs = let h = c .before .before .before .before .before .before .before .before .before .before .before .before .before .before .before .before .before .before .before .before .pre in (h .0, laid-pickable (laid-in (h .3) _ (c .before .before .before .before .before .before .answer .given .1)) (h .2), h .1 .runs-there, h .1 .kepts)
 
 same-length : tie.Need-same-length
 same-length c = search needs
@@ -87,6 +93,16 @@ returns-4 c = let a = c .before .before .before .before .before .before .before 
     λ y. let l = laid-in y _ (c .before .before .before .before .before .before .before .before .before .before .before .before .before .before .before .before .before .before .before .answer .given .1) in
     step-leaves (a .t .now) (a .b .now) (y .guards) (a .choice .now) l (a .request) (r .result) (a .out .now) _ (c .before .before .before .before .before .before .before .before .before .before .before .before .before .before .before .before .enum-told2 .given .1) (standing-reply l u (a .choice .now) (r .result) (a .out .now) _ (r .ensures))
 
+same-length-10 : tie.Need-same-length-10
+same-length-10 c = search needs
+
+same-length-11 : tie.Need-same-length-11
+same-length-11 c = search needs
+
+returns-5 : tie.Need-returns-5
+returns-5 c = let a = c .before .before .before .before .before .before .before .before .before .before .before .before .before .before .before .before .before .before .before .before .before .args in
+    λ y. count-leaves (a .t .now) (a .b .now) (y .guards) (a .choice .now) (laid-in y _ (c .before .before .before .before .before .before .before .answer .given .1)) (a .request) (c .states .result) (a .out .now) (a .out .now) _ (c .before .before .before .before .request2 .given .1) (c .states .ensures)
+
 pub respond-spec : {M : Type 1} → statement M
 respond-spec =
     tie.close
@@ -101,6 +117,8 @@ respond-spec =
     pick-requires
     enum-told-2
     step-requires
+    enum-known-request-2
+    states-requires
     same-length
     returns-2
     same-length-2
@@ -112,4 +130,7 @@ respond-spec =
     same-length-7
     same-length-8
     same-length-9
-    returns-4)
+    returns-4
+    same-length-10
+    same-length-11
+    returns-5)

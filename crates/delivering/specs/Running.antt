@@ -6,8 +6,8 @@ use lib.Dec.{ltb}
 use Rattle.paper.specs.Table.{nodes, kind, isAction}
 use Rattle.paper.specs.Marking.{Marking}
 use Rattle.paper.specs.Answers.{Answer, refused, good}
-use Rattle.keshmirun.specs.declared.RunningAnswer.{RunningAnswer}
-use Rattle.keshmirun.specs.declared.RunningAnswer.the-variants.{Good, Refused}
+use Rattle.delivering.specs.declared.RunningAnswer.{RunningAnswer}
+use Rattle.delivering.specs.declared.RunningAnswer.the-variants.{Good, Refused}
 
 -- a is "a running action"
 abbrev pub runsIn : List ℕ → Marking → ℕ → Bool

@@ -2,10 +2,10 @@
 use native.Mathlib.Omega.{arith}
 use Rattle.paper.proofs.Bytes.{Bytes}
 use Rattle.table.proofs.Reading.{read-spans, most-nodes}
-use Rattle.keshmirun.proofs.Finishing.{as-read, as-meant, finish-ready, finish-reply}
+use Rattle.delivering.proofs.IdledLaws.{as-read, as-meant, finish-ready, finish-reply}
 use borrow.Author.Needs.{needs}
-use Rattle.keshmirun.proofs.conclude.Statement.{statement}
-use Rattle.keshmirun.proofs.conclude.Tie as tie
+use Rattle.delivering.proofs.conclude.Statement.{statement}
+use Rattle.delivering.proofs.conclude.Tie as tie
 
 idle-requires : tie.Need-idle-requires
 idle-requires c κs = let h = c .before .before .before .before .before .before .before .before .before .before .pre in

@@ -6,10 +6,10 @@ use borrow.Author.Tests.{eq-eqb, ne-eqb}
 use Rattle.paper.specs.Answers.{need}
 use Rattle.paper.specs.Lists.{at}
 use Rattle.paper.specs.Table.{nodes, isAction}
-use Rattle.keshmirun.proofs.Finishing.{no-node, no-action, runs-as}
+use Rattle.delivering.proofs.RunningLaws.{no-node, no-action, runs-as}
 use borrow.Author.Needs.{needs}
-use Rattle.keshmirun.proofs.running.Statement.{statement}
-use Rattle.keshmirun.proofs.running.Tie as tie
+use Rattle.delivering.proofs.running.Statement.{statement}
+use Rattle.delivering.proofs.running.Tie as tie
 
 returns : tie.Need-returns
 returns c = let a = c .before .before .before .before .args in

@@ -13,7 +13,7 @@ use Rattle.marking.specs.declared.values.ValuesAnswer.the-variants.{Good, Refus
 use Rattle.writing.specs.Writing.{Becomes, Sources}
 use Rattle.holding.specs.Giving.{giveOf, Gives}
 use Rattle.holding.proofs.GivingLaws.{gives-refused, gives-good, give-state}
-use Rattle.keshmirun.specs.Delivered.{Deliverable, delivered}
+use Rattle.delivering.specs.Delivered.{Deliverable, delivered}
 
 module _ {t : List ℕ} {k o : ℕ} {old from kept runs tokens fire : List ℕ} (d : Deliverable t k o old from kept runs tokens fire) (b place more tokens′ : List ℕ) (r : ValuesAnswer)
     (g : Gives t old from kept b place more runs tokens′ (giveOf t k o (d .fires) (d .held) b) r) where

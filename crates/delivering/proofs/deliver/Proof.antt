@@ -1,9 +1,9 @@
 -- `deliver`: what give says, refused, or written. Assumes nothing.
 use Rattle.table.proofs.Reading.{most-nodes}
-use Rattle.keshmirun.proofs.Delivering.{refused-reply, sources, full-reply}
+use Rattle.delivering.proofs.Delivering.{refused-reply, sources, full-reply}
 use borrow.Author.Needs.{needs}
-use Rattle.keshmirun.proofs.deliver.Statement.{statement}
-use Rattle.keshmirun.proofs.deliver.Tie as tie
+use Rattle.delivering.proofs.deliver.Statement.{statement}
+use Rattle.delivering.proofs.deliver.Tie as tie
 
 slice-aggregate-give : tie.Need-slice-aggregate-give
 slice-aggregate-give c = search needs

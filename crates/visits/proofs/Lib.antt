@@ -1,2 +1,0 @@
--- Laws of the measure.
-pub mod Laws

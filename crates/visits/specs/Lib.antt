@@ -1,2 +1,0 @@
--- What is promised of the measure.
-pub mod Counting
