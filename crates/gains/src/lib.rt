@@ -112,35 +112,6 @@ pub fn gain_nodes(
     }
 }
 
-// Whether end k is taken and belongs to node i.
-fn serves(target: &[u8], home: &[u8], c: u32, i: usize, k: usize) -> bool
-    requires { ⌜ (k < length (now target)) × (k < length (now home)) × (k < 32) ⌝ }
-    ensures { λ r. ⌜ r ≡ has c k && (eqb (at (now (target .entry)) k) i || eqb (at (now (home .entry)) k) i) ⌝ }
-{
-    if !choosing::is_taken(c, k) {
-        return false;
-    }
-    if wire::wide(target[k]) == i {
-        return true;
-    }
-    wire::wide(home[k]) == i
-}
-
-// Whether a taken end belongs to node i.
-fn is_served(target: &[u8], home: &[u8], n: usize, c: u32, i: usize) -> bool
-    requires { ⌜ (n ≤ length (now target)) × (n ≤ length (now home)) × (n ≤ 20) ⌝ }
-    ensures { λ r. ⌜ r ≡ served (now (target .entry)) (now (home .entry)) n c i ⌝ }
-{
-    let mut k: usize = 0;
-    while k < n {
-        if serves(target, home, c, i, k) {
-            return true;
-        }
-        k += 1;
-    }
-    false
-}
-
 // Whether node i is an action that starts.
 fn is_started(
     t: &[u8],
@@ -157,7 +128,7 @@ fn is_started(
     if table.kind(t, i) != Table::ACTION {
         return false;
     }
-    is_served(target, home, n, c, i)
+    seating::is_served(target, home, n, c, i)
 }
 
 // Actions to which a taken end belongs run.

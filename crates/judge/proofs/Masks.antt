@@ -6,13 +6,12 @@ use mathlib.Core.List.{List, [], _∷_}
 use mathlib.Core.Option.{none, some}
 use Prim.Native.Nat.{ℕ, _≤_, _<_}
 use lib.Dec.{eqb}
-use lib.Bits.{bitAnd, bitOr, or-lt}
+use lib.Bits.{bitAnd}
 use lib.Count.{ones}
 use borrow.Author.Tests.{eq-eqb, ne-eqb, not-true, not-false}
 use Rattle.paper.specs.Lists.{at, has, below, all, any, keep, count, _⇒_}
 use Rattle.paper.specs.Table.{nodes, edges, kind, owner, target, into, inputs, isInput, isFork}
 use Rattle.paper.proofs.Bools.{never, false-if}
-use Rattle.paper.proofs.Bits.{has-or}
 use Rattle.paper.proofs.Lists.{all-below, below-all, lowest-none, lowest-some}
 use Rattle.paper.proofs.Counts.{count-below-same, count-most}
 use Rattle.net.specs.Net.{inBoth, held, meets}
@@ -40,12 +39,6 @@ module _ {p : ℕ → Bool} {n w : ℕ} (c : ℕ) (m : Marks p n w) where
   met-taken : not (eqb (bitAnd w c) 0) ≡ any (λ k. has c k && p k) (below n)
   met-taken = met ∙ any-below-alike (λ k. p k && has c k) (λ k. has c k && p k) n (λ k l. and-comm (p k) (has c k))
 
-marks-or : {p q : ℕ → Bool} {n a b : ℕ} → Marks p n a → Marks q n b → Marks (λ k. p k || q k) n (bitOr a b)
-marks-or {p} {q} {n} {a} {b} f g = record {
-  small = or-lt n a b (f .small) (g .small);
-  says = λ k l. has-or a b k ∙ ap₂ (λ (x y : Bool). x || y) (f .says k l) (g .says k l);
-}
-
 -- ---- ends that are taken
 pub seats-mask : (column : List ℕ) (n c x w : ℕ) → Marks (λ k. eqb (at column k) x) n w → ones (bitAnd w c) ≡ seats column n c x
 unfolding seats
@@ -54,11 +47,6 @@ seats-mask column n c x w m = counted c m
 pub seats-few : (column : List ℕ) (n c x : ℕ) → seats column n c x ≤ n
 unfolding seats
 seats-few column n c x = count-most (λ k. has c k && eqb (at column k) x) n
-
-pub served-mask : (target home : List ℕ) (n c i a b : ℕ) → Marks (λ k. eqb (at target k) i) n a → Marks (λ k. eqb (at home k) i) n b
-    → not (eqb (bitAnd (bitOr a b) c) 0) ≡ served target home n c i
-unfolding served
-served-mask target home n c i a b f g = met-taken c (marks-or f g)
 
 pub rivalled-mask : (foes makers ends : List ℕ) (n c k w : ℕ) → Marks (rival foes makers ends k) n w → not (eqb (bitAnd w c) 0) ≡ rivalled foes makers ends n c k
 unfolding rivalled

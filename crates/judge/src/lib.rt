@@ -28,34 +28,12 @@ enum Found {
 
 // ---- sets as words
 
-fn taken(c: u32, k: usize) -> bool
-    requires { ⌜ k < 32 ⌝ }
-    ensures { λ r. ⌜ r ≡ has c k ⌝ }
-{
-    (c >> (k as u32)) % 2 == 1
-}
-
-fn in_word(w: u64, y: usize) -> bool
-    requires { ⌜ y < 64 ⌝ }
-    ensures { λ r. ⌜ r ≡ has w y ⌝ }
-{
-    (w >> (y as u32)) % 2 == 1
-}
-
 // How many taken ends have x in a column.
 fn seated(column: &[u8], n: usize, c: u32, x: usize) -> usize
     requires { ⌜ (n ≤ length (now column)) × (n ≤ 20) ⌝ }
     ensures { λ r. ⌜ (r ≡ seats (now (column .entry)) n c x) × (r ≤ 20) ⌝ }
 {
     u32::count_ones(seating::same(column, n, x) & c) as usize
-}
-
-// Whether a taken end belongs to node i.
-fn is_served(target: &[u8], home: &[u8], n: usize, c: u32, i: usize) -> bool
-    requires { ⌜ (n ≤ length (now target)) × (n ≤ length (now home)) × (n ≤ 20) ⌝ }
-    ensures { λ r. ⌜ r ≡ served (now (target .entry)) (now (home .entry)) n c i ⌝ }
-{
-    (seating::same(target, n, i) | seating::same(home, n, i)) & c != 0
 }
 
 // ---- "no two of its ends compete"
@@ -65,7 +43,7 @@ fn is_rivalled(foes: &[u64], makers: &[u64], ends: &[u8], n: usize, c: u32, k: u
     requires { ⌜ Rowed (now ends) n (length (now makers)) × Rowed (now ends) n (length (now foes)) × (k < n) × (n ≤ 20) ⌝ }
     ensures { λ r. ⌜ r ≡ has c k && rivalled (now (foes .entry)) (now (makers .entry)) (now (ends .entry)) n c k ⌝ }
 {
-    if !taken(c, k) {
+    if !choosing::is_taken(c, k) {
         return false;
     }
     seating::rivals(foes, makers, ends, n, k) & c != 0
@@ -99,7 +77,7 @@ fn is_kept(node: &[u8], parents: &[u64], rows: usize, w: u64, i: usize, z: usize
     if seating::family(node, parents, rows, z) & w == 0 {
         return true;
     }
-    in_word(w, z)
+    words::in_word(w, z)
 }
 
 // Every row that leaves node i is kept.
@@ -255,7 +233,7 @@ fn action_agrees(
     if table.kind(t, i) != Table::ACTION {
         return true;
     }
-    if !is_served(target, home, n, c, i) {
+    if !seating::is_served(target, home, n, c, i) {
         return true;
     }
     action_fits(t, table, edge, target, n, runs, c, i)

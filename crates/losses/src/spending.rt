@@ -12,19 +12,12 @@ ghost use Rattle.table.specs.Reading.{Spans};
 ghost use Rattle.losses.specs.Filling.{Filled};
 ghost use Rattle.losses.specs.Losses.{spendsRow, spends, goes};
 
-fn in_word(x: u64, i: usize) -> bool
-    requires { ⌜ i < 64 ⌝ }
-    ensures { λ r. ⌜ r ≡ has x i ⌝ }
-{
-    (x >> (i as u32)) % 2 == 1
-}
-
 // Whether row y is in the word and is a first offer on edge e.
 fn spends_row(last: &[u8], parents: &[u64], w: u64, y: usize, e: usize) -> bool
     requires { ⌜ (y < length (now last)) × (y < length (now parents)) × (y < 64) ⌝ }
     ensures { λ r. ⌜ r ≡ spendsRow (now (last .entry)) (now (parents .entry)) w e y ⌝ }
 {
-    if !in_word(w, y) {
+    if !words::in_word(w, y) {
         return false;
     }
     if parents[y] != 0 {

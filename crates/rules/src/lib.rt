@@ -58,7 +58,7 @@ fn add_clash(
     ensures { λ r. ⌜ Added (now (net .entry)) count (now (net .exit)) r 1 n (clashKept (now (foes .entry)) (now (makers .entry)) (now (ends .entry)) n k) ⌝ }
 {
     let rivals = seating::rivals(foes, makers, ends, n, k);
-    add(net, count, seating::only(k) as u32, rivals, 0, 0)
+    add(net, count, words::bit_of(k) as u32, rivals, 0, 0)
 }
 
 // Rule 2: where row z leaves a fork, an end that a sibling of it makes comes with one that it makes.
@@ -87,7 +87,7 @@ fn add_fork(
     }
     let family = seating::family(node, parents, rows, z);
     let kin = seating::made(makers, ends, n, family);
-    let own = seating::made(makers, ends, n, seating::only(z));
+    let own = seating::made(makers, ends, n, words::bit_of(z));
     add(net, count, kin, own, 1, 32)
 }
 

@@ -1,7 +1,7 @@
 // Ends as rows of the offer list: their columns, and masks of ends and words of rows by which the rules on choices are asked.
 // Words and numbers only; what they mean for offers is said by the laws. Assumes no more than its `requires`.
 ghost use mathlib.Core.Path.{_≡_};
-ghost use mathlib.Core.Bool.{Bool, not, _&&_, cond};
+ghost use mathlib.Core.Bool.{Bool, not, _&&_, _||_, cond};
 ghost use Prim.Native.Nat.{ℕ, _+_, _^_, _≤_, _<_};
 ghost use lib.Dec.{eqb};
 ghost use lib.Bits.{bitAnd};
@@ -11,7 +11,7 @@ ghost use Rattle.paper.specs.Answers.{good};
 ghost use Rattle.paper.specs.Table.{kind, owner, isPin};
 ghost use Rattle.table.specs.Reading.{tableRead};
 ghost use Rattle.rows.specs.Sets.{Marks};
-ghost use Rattle.seating.specs.Seating.{Columns, Rowed, rival, siblings, makes};
+ghost use Rattle.seating.specs.Seating.{Columns, Rowed, rival, siblings, makes, served};
 use table::Table;
 
 // ---- columns
@@ -54,21 +54,13 @@ pub fn columns(
 
 // ---- words, one digit after another
 
-// The word of one number alone.
-pub fn only(k: usize) -> u64
-    requires { ⌜ k < 64 ⌝ }
-    ensures { λ r. ⌜ r ≡ 2 ^ k ⌝ }
-{
-    1u64 << (k as u32)
-}
-
 // The word w of the numbers below k that pass, and k too if it does.
 fn mark(w: u64, k: usize, on: bool) -> u64
     requires { ⌜ k < 64 ⌝ }
     ensures { λ r. ⌜ ((p : ℕ → Bool) → on ≡ p k → Marks p k w → Marks p (k + 1) r) ⌝ }
 {
     if on {
-        return w | only(k);
+        return w | words::bit_of(k);
     }
     w
 }
@@ -176,4 +168,35 @@ pub fn all_makers(makers: &[u64], ends: &[u8], n: usize, c: u32) -> u64
         k += 1;
     }
     w
+}
+
+// ---- ends that are taken
+
+// Whether end k is taken and belongs to node i.
+fn serves(target: &[u8], home: &[u8], c: u32, i: usize, k: usize) -> bool
+    requires { ⌜ (k < length (now target)) × (k < length (now home)) × (k < 32) ⌝ }
+    ensures { λ r. ⌜ r ≡ has c k && (eqb (at (now (target .entry)) k) i || eqb (at (now (home .entry)) k) i) ⌝ }
+{
+    if !choosing::is_taken(c, k) {
+        return false;
+    }
+    if wire::wide(target[k]) == i {
+        return true;
+    }
+    wire::wide(home[k]) == i
+}
+
+// Whether a taken end belongs to node i.
+pub fn is_served(target: &[u8], home: &[u8], n: usize, c: u32, i: usize) -> bool
+    requires { ⌜ (n ≤ length (now target)) × (n ≤ length (now home)) × (n ≤ 20) ⌝ }
+    ensures { λ r. ⌜ r ≡ served (now (target .entry)) (now (home .entry)) n c i ⌝ }
+{
+    let mut k: usize = 0;
+    while k < n {
+        if serves(target, home, c, i, k) {
+            return true;
+        }
+        k += 1;
+    }
+    false
 }

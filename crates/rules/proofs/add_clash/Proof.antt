@@ -13,11 +13,11 @@ use Rattle.rules.proofs.add_clash.Tie as tie
 rivals-requires : tie.Need-rivals-requires
 rivals-requires c κs = search needs
 
-only-requires : tie.Need-only-requires
-only-requires c κs = search needs
+bit-of-requires : tie.Need-bit-of-requires
+bit-of-requires c κs = search needs
 
 cast-add : tie.Need-cast-add
-cast-add c = let k = c .before .before .before .before .before .before .before .args .k in let p = c .before .before .before .before .before .before .before .pre in let l : k < 32 = omega arith in let f : 2 ^ k < 2 ^ 32 = pow-lt l in let e = c .only .ensures in search needs
+cast-add c = let k = c .before .before .before .before .before .before .before .args .k in let p = c .before .before .before .before .before .before .before .pre in let l : k < 32 = omega arith in let f : 2 ^ k < 2 ^ 32 = pow-lt l in let e = c .bit-of .ensures in search needs
 
 add-requires : tie.Need-add-requires
 add-requires c κs = search needs
@@ -30,10 +30,10 @@ returns c =
     let a = c .before .before .before .before .before .before .before .before .before .before .args in
     let p = c .before .before .before .before .before .before .before .before .before .before .pre in
     added-same
-    (λ x. ap (λ (w : ℕ). obeys (a .n) (rule w (c .before .before .before .before .before .rivals .result) 0 0) x) (c .before .before .before .only .ensures)
+    (λ x. ap (λ (w : ℕ). obeys (a .n) (rule w (c .before .before .before .before .before .rivals .result) 0 0) x) (c .before .before .before .bit-of .ensures)
     ∙ clash-says (a .foes .now) (a .makers .now) (a .ends .now) (a .n) (a .k) _ x (p .4) (c .before .before .before .before .before .rivals .ensures))
     (c .before .before .add .ensures (a .n))
 
 pub add-clash-spec : {M : Type 1} → statement M
 add-clash-spec =
-    tie.close (tie.spec rivals-requires only-requires cast-add add-requires same-length returns)
+    tie.close (tie.spec rivals-requires bit-of-requires cast-add add-requires same-length returns)

@@ -42,8 +42,8 @@ family-requires c κs = search needs
 made-requires : tie.Need-made-requires
 made-requires c κs = search needs
 
-only-requires : tie.Need-only-requires
-only-requires c κs = search needs
+bit-of-requires : tie.Need-bit-of-requires
+bit-of-requires c κs = search needs
 
 made-requires-2 : tie.Need-made-requires-2
 made-requires-2 c κs = search needs
@@ -64,7 +64,7 @@ returns-3 c =
     added-same
     (λ x. fork-says (a .t .now) (a .node .now) (a .parents .now) (a .makers .now) (a .ends .now) (a .rows) (a .n) (a .z) x _ _ _ l
     (sym (ap (kind (a .t .now)) e) ∙ sym (c .before .before .before .before .before .before .before .before .before .kind .ensures .0) ∙ c .before .before .before .before .before .before .before .before .if2 .left) (p .8)
-    (c .before .before .before .before .before .before .before .family .ensures) (c .before .before .before .before .before .before .made .ensures) (rw (sym (c .before .before .before .before .before .only .ensures)) (c .before .before .before .before .made2 .ensures)))
+    (c .before .before .before .before .before .before .before .family .ensures) (c .before .before .before .before .before .before .made .ensures) (rw (sym (c .before .before .before .before .before .bit-of .ensures)) (c .before .before .before .before .made2 .ensures)))
     (c .before .before .add .ensures (a .n))
 
 pub add-fork-spec : {M : Type 1} → statement M
@@ -78,7 +78,7 @@ add-fork-spec =
     returns-2
     family-requires
     made-requires
-    only-requires
+    bit-of-requires
     made-requires-2
     add-requires
     same-length

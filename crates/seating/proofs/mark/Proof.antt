@@ -5,16 +5,16 @@ use borrow.Author.Needs.{needs}
 use Rattle.seating.proofs.mark.Statement.{statement}
 use Rattle.seating.proofs.mark.Tie as tie
 
-only-requires : tie.Need-only-requires
-only-requires c κs = search needs
+bit-of-requires : tie.Need-bit-of-requires
+bit-of-requires c κs = search needs
 
 returns : tie.Need-returns
 returns c = λ p e m.
     let a = c .before .before .args in
-    rw (c .only .ensures) (marks-more p (a .k) (a .w) (sym e ∙ c .before .if1 .taken) m)
+    rw (c .bit-of .ensures) (marks-more p (a .k) (a .w) (sym e ∙ c .before .if1 .taken) m)
 
 returns-2 : tie.Need-returns-2
 returns-2 c = λ p e m. marks-skip p (c .before .args .k) (c .before .args .w) (sym e ∙ c .if1 .left) m
 
 pub mark-spec : {M : Type 1} → statement M
-mark-spec = tie.close (tie.spec only-requires returns returns-2)
+mark-spec = tie.close (tie.spec bit-of-requires returns returns-2)

@@ -5,8 +5,8 @@ use borrow.Author.Tests.{not-true, not-false, eq-eqb, ne-eqb}
 use lib.Dec.{eqb}
 use Rattle.paper.specs.Lists.{at, has}
 use borrow.Author.Needs.{needs}
-use Rattle.gains.proofs.serves.Statement.{statement}
-use Rattle.gains.proofs.serves.Tie as tie
+use Rattle.seating.proofs.serves.Statement.{statement}
+use Rattle.seating.proofs.serves.Tie as tie
 
 is-taken-requires : tie.Need-is-taken-requires
 is-taken-requires c κs = search needs

@@ -8,10 +8,10 @@ use lib.Dec.{eqb}
 use Rattle.paper.specs.Lists.{at, has}
 use Rattle.paper.proofs.Counts.{any-below-none}
 use Rattle.paper.proofs.Members.{in-any, below-in}
 use Rattle.seating.specs.Seating.{served}
 use borrow.Author.Needs.{needs}
-use Rattle.gains.proofs.is_served.Statement.{statement}
-use Rattle.gains.proofs.is_served.Tie as tie
+use Rattle.seating.proofs.is_served.Statement.{statement}
+use Rattle.seating.proofs.is_served.Tie as tie
 
 abbrev Inv-loop : tie.InvT-loop
 Inv-loop target home n c i k₀ k = (k ≤ n) × ((j : ℕ) → j < k → has c j && (eqb (at target j) i || eqb (at home j) i) ≡ false)
