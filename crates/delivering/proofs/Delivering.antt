@@ -11,8 +11,8 @@ use Rattle.paper.specs.Operations.{packed, inRoom, Reply}
 use Rattle.marking.specs.declared.values.ValuesAnswer.{ValuesAnswer}
 use Rattle.marking.specs.declared.values.ValuesAnswer.the-variants.{Good, Refused}
 use Rattle.writing.specs.Writing.{Becomes, Sources}
-use Rattle.holding.specs.Giving.{giveOf, Gives}
-use Rattle.holding.proofs.GivingLaws.{gives-refused, gives-good, give-state}
+use Rattle.giving.specs.Giving.{giveOf, Gives}
+use Rattle.giving.proofs.GivingLaws.{gives-refused, gives-good, give-state}
 use Rattle.delivering.specs.Delivered.{Deliverable, delivered}
 
 module _ {t : List ℕ} {k o : ℕ} {old from kept runs tokens fire : List ℕ} (d : Deliverable t k o old from kept runs tokens fire) (b place more tokens′ : List ℕ) (r : ValuesAnswer)

@@ -9,7 +9,7 @@ use Rattle.paper.specs.Lists.{oneIf}
 use Rattle.paper.specs.Table.{nodes, kind, isAction}
 use Rattle.paper.specs.Marking.{Marking}
 use Rattle.paper.proofs.Bools.{and-true}
-use Rattle.holding.proofs.HoldingLaws.{one-if}
+use Rattle.giving.proofs.GainLaws.{one-if}
 use Rattle.delivering.specs.Running.{runsIn}
 
 pub no-node : (t : List ℕ) (m : Marking) (a : ℕ) → nodes t ≤ a → runsIn t m a ≡ false

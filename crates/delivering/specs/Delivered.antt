@@ -5,7 +5,7 @@ use mathlib.Core.Bool.{Bool, false}
 use mathlib.Core.List.{List}
 use Rattle.paper.specs.Answers.{Answer, refused, good, _>>=_}
 use Rattle.paper.specs.Marking.{Marking, encode}
-use Rattle.holding.specs.Giving.{giveOf, Ready}
+use Rattle.giving.specs.Giving.{giveOf, Ready}
 
 -- the marking after the lists of b are appended and the tokens handed out, as bytes
 unfoldable pub delivered : List ℕ → ℕ → ℕ → (ℕ → Bool) → Marking → List ℕ → Answer (List ℕ)

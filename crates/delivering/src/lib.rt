@@ -38,7 +38,7 @@ pub fn deliver(
 {
     let mut place = [0usize; Table::MOST_NODES];
     let mut more = [0u8; Table::MOST_NODES];
-    if let ValuesAnswer::Refused(number, at) = holding::give(
+    if let ValuesAnswer::Refused(number, at) = giving::give(
         t,
         table,
         kind,
@@ -109,7 +109,7 @@ pub fn conclude(
 {
     holding::idle(t, table, a, kept, runs);
     let mut fire = [0u8; Table::MOST_NODES];
-    holding::fire_node(table, a, &mut fire);
+    giving::fire_node(table, a, &mut fire);
     deliver(
         t,
         table,

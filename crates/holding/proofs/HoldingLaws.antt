@@ -24,7 +24,7 @@ use Rattle.paper.proofs.Lengths.{drop-head}
 use Rattle.marking.specs.declared.reading.MarkingAnswer.{MarkingAnswer}
 use Rattle.marking.specs.Reading.{NodeNoted, NodesNoted, EdgesNoted, MarkingRead}
 use Rattle.marking.specs.Values.{isListed, ValuesNoted}
-use Rattle.holding.specs.Holding.{NodesHeld, EdgesHeld, HeldRead, CountsHeld, Gained, gained}
+use Rattle.holding.specs.Holding.{NodesHeld, EdgesHeld, HeldRead}
 
 -- a stock that stands at place p has its values behind the count
 pub stock-noted : (b vs rest : List ℕ) (p : ℕ) → drop p b ≡ listed vs ++ rest → ValuesNoted b vs (p + 1) (length vs)
@@ -72,9 +72,6 @@ module _ {t : List ℕ} {m : Marking} {b : List ℕ} where
       by k true e n = rw (eqb-true k i e, getD-set-same from i x 0 lf, getD-set-same kept i y 0 lk) here
       by k false e n = let d : k ≡ i → ⊥ = eqb-false k i e in rw (getD-set-other from i k x 0 d, getD-set-other kept i k y 0 d) (s .stocks k (omega arith))
 
-pub counts-none : {t : List ℕ} {f : ℕ → ℕ} (tokens : List ℕ) → EdgesHeld t f tokens 0
-counts-none tokens = record { counts = λ j l. absurd (omega arith) }
-
 pub counts-more : {t : List ℕ} {m : Marking} {b places : List ℕ} {n : ℕ} (tokens : List ℕ) (j x : ℕ) → j < n → j < length tokens
     → EdgesNoted t m b places n → EdgesHeld t (m .tokens) tokens j → (at places j < length b → x ≡ at b (at places j)) → EdgesHeld t (m .tokens) (set tokens j x) (j + 1)
 counts-more {t} {m} tokens j x l lt h s f = record {
@@ -112,56 +109,6 @@ some-emptied t a i kept₀ kept l c e h k = by (eqb k i) refl c e
     by true q false e = let z = eqb-true k i q in rw (z, lt-ltb i (i + 1) (omega arith), e) (h i ∙ rw (e, le-ltb i i (omega arith)))
     by false q true e = let d : k ≡ i → ⊥ = eqb-false k i q in getD-set-other kept i k 0 0 d ∙ h k ∙ rw (same-test q)
     by false q false e = h k ∙ rw (same-test q)
-
--- ---- tokens gained
-pub one-if : (b : Bool) → eqb (oneIf b) 1 ≡ b
-one-if true = refl
-one-if false = refl
-
-pub counted-has : (t : List ℕ) (j : ℕ) → j < edges t → hasTokens t j ≡ counted t j
-counted-has t j l = rw (lt-ltb j (edges t) l)
-
-module _ (t : List ℕ) (fires : ℕ → Bool) (held : ℕ → ℕ) (tokens₀ : List ℕ) (h : CountsHeld t held tokens₀) (small : (k : ℕ) → at tokens₀ k < 256) where
-  -- the edges below j have gained, and the others are as they were
-  pub record GainedTo (tokens : List ℕ) (j : ℕ) : Type 0 where
-    pub below-j : (k : ℕ) → k < j → (counted t k ≡ true → at tokens k ≡ gained t fires held k) × (leb (gained t fires held k) 255 ≡ true)
-    pub rest : (k : ℕ) → j ≤ k → at tokens k ≡ at tokens₀ k
-
-  pub gained-begin : GainedTo tokens₀ 0
-  gained-begin = record { below-j = λ k l. absurd (omega arith); rest = λ k l. refl }
-
-  module _ (tokens : List ℕ) (j : ℕ) (l : j < edges t) (g : GainedTo tokens j) where
-    pub gained-full : hasTokens t j && fires (source t j) ≡ true → at tokens j ≡ 255 → leb (gained t fires held j) 255 ≡ false
-    gained-full e f =
-        let c = sym (counted-has t j l) ∙ and-true (hasTokens t j) _ e .0 in
-        let x : held j ≡ 255 = sym (h .edges-held .counts j l c) ∙ sym (g .rest j (omega arith)) ∙ f in
-        rw (e, x)
-
-    pub gained-one : j < length tokens → hasTokens t j && fires (source t j) ≡ true → (at tokens j ≡ 255 → ⊥) → GainedTo (set tokens j (at tokens j + 1)) (j + 1)
-    gained-one lt e f =
-        let c = sym (counted-has t j l) ∙ and-true (hasTokens t j) _ e .0 in
-        let x : at tokens j ≡ held j = g .rest j (omega arith) ∙ h .edges-held .counts j l c in
-        let y : gained t fires held j ≡ suc (held j) = rw e in
-        record {
-          below-j = set-more (λ k v. (counted t k ≡ true → v ≡ gained t fires held k) × (leb (gained t fires held k) 255 ≡ true)) tokens j (at tokens j + 1) lt (g .below-j)
-              (λ c. omega arith, le-leb (gained t fires held j) 255 (omega (arith, small j, g .rest j (omega arith))));
-          rest = λ k n. let d : k ≡ j → ⊥ = λ q. omega arith in getD-set-other tokens j k (at tokens j + 1) 0 d ∙ g .rest k (omega arith);
-        }
-
-    pub gained-none : hasTokens t j && fires (source t j) ≡ false → GainedTo tokens (j + 1)
-    gained-none e =
-        let y : gained t fires held j ≡ held j = rw e in
-        record {
-          below-j = below-more (λ k. (counted t k ≡ true → at tokens k ≡ gained t fires held k) × (leb (gained t fires held k) 255 ≡ true)) j (g .below-j)
-              (λ c. g .rest j (omega arith) ∙ h .edges-held .counts j l c ∙ sym y, le-leb (gained t fires held j) 255 (⊎-elim (λ c. omega (arith, small j, h .edges-held .counts j l c)) (λ c. omega (arith, h .none j l (counted-has t j l ∙ c))) (true-or-false (counted t j))));
-          rest = λ k n. g .rest k (omega arith);
-        }
-
-  pub gained-all : (tokens : List ℕ) → GainedTo tokens (edges t) → Gained t (gained t fires held) tokens true
-  gained-all tokens g = (sym (below-all (λ e. leb (gained t fires held e) 255) (edges t) (λ k l. g .below-j k l .1)), λ r. record { counts = λ k l. g .below-j k l .0 })
-
-  pub gained-not : (tokens : List ℕ) (j : ℕ) → j < edges t → leb (gained t fires held j) 255 ≡ false → Gained t (gained t fires held) tokens false
-  gained-not tokens j l e = (sym (all-fails (λ e. leb (gained t fires held e) 255) (edges t) j l e), λ r. never false r refl)
 
 -- ---- a marking taken up
 pub held-read : (t b fields counts from kept runs tokens : List ℕ) (o : Option Marking) (r : MarkingAnswer) → MarkingRead t b fields counts o r

@@ -1,4 +1,3 @@
 -- Laws of a marking that changes.
 pub mod HoldingLaws
 pub mod TakenUp
-pub mod GivingLaws

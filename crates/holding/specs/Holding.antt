@@ -27,25 +27,3 @@ abbrev pub HeldRead : List ℕ → List ℕ → List ℕ → List ℕ → List �
 HeldRead t b from kept runs tokens none r = said r ≡ refused 5 0
 HeldRead t b from kept runs tokens (some m) r =
     (said r ≡ good (m .ended)) × NodesHeld t m b from kept runs (nodes t) × EdgesHeld t (m .tokens) tokens (edges t)
-
--- nodes that hand a token to each edge with a count that leaves them
-pub record Fires (t : List ℕ) (fires : ℕ → Bool) (fire : List ℕ) : Type 0 where
-  pub marked : (i : ℕ) → i < nodes t → at fire i ≡ oneIf (fires i)
-
-abbrev pub gained : List ℕ → (ℕ → Bool) → (ℕ → ℕ) → ℕ → ℕ
-gained t fires tokensOf e = cond (hasTokens t e && fires (source t e)) (suc (tokensOf e)) (tokensOf e)
-
--- how much each node will hold: what is kept and what is appended; a node that holds nothing has none
-pub record Amounts (t : List ℕ) (held : ℕ → ℕ) (kept more : List ℕ) : Type 0 where
-  pub stock : (i : ℕ) → i < nodes t → isObjectNode (kind t i) ≡ true → at kept i + at more i ≡ held i
-  pub none : (i : ℕ) → i < nodes t → isObjectNode (kind t i) ≡ false → held i ≡ 0
-
--- every count is held, and there are none off the layout
-pub record CountsHeld (t : List ℕ) (held : ℕ → ℕ) (tokens : List ℕ) : Type 0 where
-  pub edges-held : EdgesHeld t held tokens (edges t)
-  pub none : (e : ℕ) → e < edges t → hasTokens t e ≡ false → held e ≡ 0
-
--- no count passes 255, and then all are held
-abbrev pub Gained : List ℕ → (ℕ → ℕ) → List ℕ → Bool → Type 0
-Gained t held tokens r =
-    (r ≡ all (λ e. leb (held e) 255) (below (edges t))) × (r ≡ true → EdgesHeld t held tokens (edges t))

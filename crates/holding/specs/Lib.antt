@@ -1,4 +1,3 @@
 -- What the code that changes a marking promises, in the paper's words.
 pub mod Holding
 pub mod TakenUp
-pub mod Giving

@@ -16,7 +16,7 @@ use Rattle.marking.specs.declared.reading.MarkingAnswer.the-variants.{Ended, Re
 use Rattle.marking.specs.Values.{listedNodes}
 use Rattle.holding.specs.Holding.{HeldRead}
 use Rattle.holding.specs.TakenUp.{Held, LiveHeld}
-use Rattle.holding.specs.Giving.{giveOf}
+use Rattle.giving.specs.Giving.{giveOf}
 use Rattle.holding.proofs.TakenUp.{refused-read, ended-read}
 use Rattle.board.proofs.NeedLaws.{need-refused}
 use Rattle.delivering.specs.Delivered.{delivered}

@@ -20,8 +20,7 @@ use Rattle.table.specs.declared.Table.{Table}
 use Rattle.table.specs.Reading.{tableRead, Blank}
 use Rattle.table.proofs.Reading.{read-refused, read-fine, read-good}
 use Rattle.marking.specs.Values.{isListed, listedNodes}
-use Rattle.holding.specs.Holding.{Fires}
-use Rattle.holding.specs.Giving.{giveOf}
+use Rattle.giving.specs.Giving.{Fires, giveOf}
 use Rattle.delivering.specs.Delivered.{Deliverable, delivered}
 
 -- ---- check

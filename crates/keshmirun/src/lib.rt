@@ -46,7 +46,7 @@ pub extern "C" fn start(table: &[u8], values: &[u8], out: &mut [u8]) -> u64
     let kept = [0u8; Table::MOST_NODES];
     let runs = [0u8; Table::MOST_NODES];
     let mut fire = [0u8; Table::MOST_NODES];
-    holding::fire_kind(table, counts, Table::INITIAL, &mut fire);
+    giving::fire_kind(table, counts, Table::INITIAL, &mut fire);
     let mut tokens = [0u8; Table::MOST_EDGES];
     delivering::deliver(
         table,

@@ -1,0 +1,3 @@
+-- Laws of what start and finish give.
+pub mod GainLaws
+pub mod GivingLaws

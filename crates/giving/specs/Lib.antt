@@ -1,0 +1,2 @@
+-- What start and finish give.
+pub mod Giving
