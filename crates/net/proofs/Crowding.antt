@@ -14,14 +14,15 @@ use borrow.Author.Tests.{leb-true, leb-false}
 use Rattle.paper.specs.Lists.{at, has, below, count, oneIf}
 use Rattle.paper.proofs.Bools.{never, and-true, and-both, or-left, or-right, true-or-false, false-if}
 use Rattle.paper.proofs.Counts.{count-below, any-below-none}
-use Rattle.paper.proofs.Bits.{has-zero}
+use Rattle.paper.proofs.Digits.{has-zero}
 use Rattle.net.specs.declared.Bounds.{Bounds}
 use Rattle.net.specs.declared.Group.{Group}
 use Rattle.net.specs.declared.Wanted.{Wanted}
-use Rattle.net.specs.Net.{rule, held, meets, inBoth, obeys, ruleAt}
+use Rattle.net.specs.declared.Rule.{Rule}
+use Rattle.net.specs.Net.{held, meets, inBoth, obeys, size, ruleAt}
 use Rattle.net.specs.Bounds.{good, Without, Between, Keeps, Shuns, Foes, Most, Huddled, Asks}
-use Rattle.net.proofs.Sets.{has-and, has-or, has-power, has-power-other, count-part, meets-held, meets-at, meets-none, held-most, apart-power, meets-one}
-use Rattle.net.proofs.Rules.{obeys-facts, passes-rule}
+use Rattle.net.proofs.Sets.{has-and, has-or, has-power-other, count-part, meets-held, meets-at, meets-none, held-most, apart-power, meets-one}
+use Rattle.net.proofs.Rules.{obeys-facts, obeyed}
 
 -- ---- counts
 count-cover : (p q r : ℕ → Bool) (n : ℕ) → ((k : ℕ) → p k ≡ true → q k || r k ≡ true) → count p (below n) ≤ count q (below n) + count r (below n)
@@ -102,14 +103,14 @@ module _ (x : ℕ) where
 pub shuns-none : (p : ℕ → Bool) (k : ℕ) → Shuns p k 0
 shuns-none p k = λ x e h. meets-zero x
 
-pub shuns-rule : (when only lo k : ℕ) → k < 32 → meets 32 when (2 ^ k) ≡ true → Shuns (obeys 32 (rule when only lo 0)) k only
-shuns-rule when only lo k l m = λ x e h.
-    let w = meets-at 32 x when k l h (sym (meets-one 32 when k l) ∙ m) in
-    none-held x only (leb-true (held 32 x only) 0 (obeys-facts 32 (rule when only lo 0) x e w .1))
+pub shuns-rule : (r : Rule) (k : ℕ) → k < 32 → r .hi ≡ 0 → meets 32 (r .when) (2 ^ k) ≡ true → Shuns (obeys 32 r) k (r .only)
+shuns-rule r k l z m = λ x e h.
+    let w = meets-at 32 x (r .when) k l h (sym (meets-one 32 (r .when) k l) ∙ m) in
+    none-held x (r .only) (omega (arith, leb-true (held 32 x (r .only)) (r .hi) (obeys-facts 32 r x e w .1)))
 
-pub shuns-more : (when only lo hi : List ℕ) (n : ℕ) (want : Wanted) (k a b i : ℕ) → i < n
-    → Shuns (good when only lo hi n want) k a → Shuns (obeys 32 (ruleAt when only lo hi i)) k b → Shuns (good when only lo hi n want) k (bitOr a b)
-shuns-more when only lo hi n want k a b i l f g = λ x e h. meets-or x a b (f x e h) (g x (passes-rule when only lo hi n want 32 x e i l) h)
+pub shuns-more : (net : List ℕ) (want : Wanted) (k a b i : ℕ) → i < size net → (r : Rule) → r ≡ ruleAt net i
+    → Shuns (good net want) k a → Shuns (obeys 32 r) k b → Shuns (good net want) k (bitOr a b)
+shuns-more net want k a b i l r q f g = λ x e h. meets-or x a b (f x e h) (g x (obeyed net want 32 x e i l r q) h)
 
 pub foes-more : (p : ℕ → Bool) (foes : List ℕ) (k r : ℕ) → k < length foes → Foes p k foes → Shuns p k r → Foes p (k + 1) (set foes k r)
 foes-more p foes k r l f g j h x e y =
@@ -179,8 +180,8 @@ module _ (p : ℕ → Bool) where
       omega (arith, inside only b x w)) in
       strikes x (rw z) w
 
-pub asks-rule : (when only lo hi : List ℕ) (n : ℕ) (want : Wanted) (i : ℕ) → i < n → Asks (good when only lo hi n want) (ruleAt when only lo hi i .when) (ruleAt when only lo hi i .only) (ruleAt when only lo hi i .lo)
-asks-rule when only lo hi n want i l = λ x e m. leb-true _ _ (obeys-facts 32 (ruleAt when only lo hi i) x (passes-rule when only lo hi n want 32 x e i l) m .0)
+pub asks-rule : (net : List ℕ) (want : Wanted) (i : ℕ) → i < size net → (r : Rule) → r ≡ ruleAt net i → Asks (good net want) (r .when) (r .only) (r .lo)
+asks-rule net want i l r q = λ x e m. leb-true (r .lo) (held 32 x (r .only)) (obeys-facts 32 r x (obeyed net want 32 x e i l r q) m .0)
 
 -- what two rules ask for
 pub asks-none : (p : ℕ → Bool) (when : ℕ) → Asks p when 0 0

@@ -11,11 +11,12 @@ use borrow.Author.Tests.{leb-true, not-true}
 use Rattle.paper.specs.Lists.{has}
 use Rattle.paper.proofs.Bools.{and-true, and-both, or-true, or-left, or-right, true-or-false, false-if}
 use Rattle.net.specs.declared.Wanted.{Wanted}
+use Rattle.net.specs.declared.Rule.{Rule}
 use Rattle.net.specs.declared.Bounds.{Bounds}
-use Rattle.net.specs.Net.{Rule, held, meets, obeys, ruleAt}
+use Rattle.net.specs.Net.{held, meets, obeys, size, ruleAt}
 use Rattle.net.specs.Bounds.{good, Without, Between, Keeps, NoneIn}
 use Rattle.net.proofs.Sets.{has-and, has-or, has-power-other, held-part, held-full, meets-part, meets-none, digits-same, apart-power}
-use Rattle.net.proofs.Rules.{obeys-facts, passes-wanted, passes-rule}
+use Rattle.net.proofs.Rules.{obeys-facts, passes-wanted, obeyed}
 
 -- ---- steps of any kind
 pub keeps-all : (p : ℕ → Bool) (b : Bounds) → Keeps p b b
@@ -118,25 +119,23 @@ module _ (r : Rule) (b : Bounds) where
       omega arith)
 
 -- ---- a net
-module _ (when only lo hi : List ℕ) (n : ℕ) (want : Wanted) (b : Bounds) where
+module _ (net : List ℕ) (want : Wanted) (b : Bounds) where
   abbrev passing : ℕ → Bool
-  passing = good when only lo hi n want
+  passing = good net want
 
-  abbrev ruleOf : ℕ → Rule
-  ruleOf = ruleAt when only lo hi
+  module _ (i : ℕ) (l : i < size net) (r : Rule) (is-rule : r ≡ ruleAt net i) where
+    pub keeps-rule : (c : Bounds) → Keeps (obeys 32 r) b c → Keeps passing b c
+    keeps-rule c f = λ x e w. f x (obeyed net want 32 x e i l r is-rule) w
 
-  pub keeps-rule : (i : ℕ) → i < n → (c : Bounds) → Keeps (obeys 32 (ruleOf i)) b c → Keeps passing b c
-  keeps-rule i l c f = λ x e w. f x (passes-rule when only lo hi n want 32 x e i l) w
-
-  pub none-rule : (i : ℕ) → i < n → NoneIn (obeys 32 (ruleOf i)) b → NoneIn passing b
-  none-rule i l f = λ x e w. f x (passes-rule when only lo hi n want 32 x e i l) w
+    pub none-rule : NoneIn (obeys 32 r) b → NoneIn passing b
+    none-rule f = λ x e w. f x (obeyed net want 32 x e i l r is-rule) w
 
   pub keeps-wanted : (c : Bounds) → Keeps (λ x. leb (want .least) (held 32 x (want .ends))) b c → Keeps passing b c
-  keeps-wanted c f = λ x e w. f x (passes-wanted when only lo hi n want 32 x e) w
+  keeps-wanted c f = λ x e w. f x (passes-wanted net want 32 x e) w
 
   pub none-wanted : held 32 (b .may) (want .ends) < want .least → NoneIn passing b
   none-wanted q = λ x e w.
-      let f = leb-true (want .least) (held 32 x (want .ends)) (passes-wanted when only lo hi n want 32 x e) in
+      let f = leb-true (want .least) (held 32 x (want .ends)) (passes-wanted net want 32 x e) in
       let g = held-part 32 x (b .may) (want .ends) (w .under) in
       omega arith
 

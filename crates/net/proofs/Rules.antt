@@ -10,7 +10,8 @@ use Rattle.paper.specs.Choices.{FirstOf}
 use Rattle.paper.proofs.Bools.{never, and-true, and-both, false-if}
 use Rattle.paper.proofs.Members.{all-in, in-all, in-each, each-in, below-in, in-below}
 use Rattle.net.specs.declared.Wanted.{Wanted}
-use Rattle.net.specs.Net.{Rule, Net, held, meets, obeys, passes, ruleAt, netOf}
+use Rattle.net.specs.declared.Rule.{Rule}
+use Rattle.net.specs.Net.{Net, held, meets, obeys, passes, size, ruleAt, netOf}
 use Rattle.net.proofs.Sets.{held-wider, meets-held}
 
 -- ---- one rule
@@ -27,37 +28,35 @@ module _ (m : ℕ) (r : Rule) (x : ℕ) where
   pub obeys-facts : obeys m r x ≡ true → meets m x (r .when) ≡ true → (leb (r .lo) (held m x (r .only)) ≡ true) × (leb (held m x (r .only)) (r .hi) ≡ true)
   obeys-facts e h = and-true (leb (r .lo) (held m x (r .only))) _ (sym (obeys-met h) ∙ e)
 
--- ---- a net in four columns
-module _ (when only lo hi : List ℕ) (n : ℕ) (want : Wanted) (m x : ℕ) where
-  abbrev net : Net
-  net = netOf when only lo hi n want
-
-  abbrev ruleOf : ℕ → Rule
-  ruleOf = ruleAt when only lo hi
-
-  pub passes-wanted : passes m net x ≡ true → leb (want .least) (held m x (want .ends)) ≡ true
+-- ---- a net in cells
+module _ (net : List ℕ) (want : Wanted) (m x : ℕ) where
+  pub passes-wanted : passes m (netOf net want) x ≡ true → leb (want .least) (held m x (want .ends)) ≡ true
   unfolding passes netOf
   passes-wanted e = and-true (leb (want .least) (held m x (want .ends))) _ e .0
 
-  pub passes-rule : passes m net x ≡ true → (i : ℕ) → i < n → obeys m (ruleOf i) x ≡ true
+  passes-rule : passes m (netOf net want) x ≡ true → (i : ℕ) → i < size net → obeys m (ruleAt net i) x ≡ true
   unfolding passes netOf
   passes-rule e i l =
-      all-in (λ r. obeys m r x) (and-true (leb (want .least) (held m x (want .ends))) (all (λ r. obeys m r x) (each ruleOf (below n))) e .1)
-      (each-in ruleOf (below-in n l))
+      all-in (λ r. obeys m r x) (and-true (leb (want .least) (held m x (want .ends))) (all (λ r. obeys m r x) (each (ruleAt net) (below (size net)))) e .1)
+      (each-in (ruleAt net) (below-in (size net) l))
 
-  pub passes-all : want .least ≤ held m x (want .ends) → ((i : ℕ) → i < n → obeys m (ruleOf i) x ≡ true) → passes m net x ≡ true
+  -- a rule as it was read
+  pub obeyed : passes m (netOf net want) x ≡ true → (i : ℕ) → i < size net → (r : Rule) → r ≡ ruleAt net i → obeys m r x ≡ true
+  obeyed e i l r q = ap (λ (s : Rule). obeys m s x) q ∙ passes-rule e i l
+
+  pub passes-all : want .least ≤ held m x (want .ends) → ((i : ℕ) → i < size net → obeys m (ruleAt net i) x ≡ true) → passes m (netOf net want) x ≡ true
   unfolding passes netOf
   passes-all l h =
-      and-both (leb (want .least) (held m x (want .ends))) (all (λ r. obeys m r x) (each ruleOf (below n))) (le-leb (want .least) (held m x (want .ends)) l)
-      (in-all (λ r. obeys m r x) (each ruleOf (below n))
-      (λ r k. let q = in-each ruleOf (below n) k in ap (λ s. obeys m s x) (q .2) ∙ h (q .0) (in-below n (q .1))))
+      and-both (leb (want .least) (held m x (want .ends))) (all (λ r. obeys m r x) (each (ruleAt net) (below (size net)))) (le-leb (want .least) (held m x (want .ends)) l)
+      (in-all (λ r. obeys m r x) (each (ruleAt net) (below (size net)))
+      (λ r k. let q = in-each (ruleAt net) (below (size net)) k in ap (λ s. obeys m s x) (q .2) ∙ h (q .0) (in-below (size net) (q .1))))
 
-  pub passes-unwanted : held m x (want .ends) < want .least → passes m net x ≡ false
+  pub passes-unwanted : held m x (want .ends) < want .least → passes m (netOf net want) x ≡ false
   unfolding passes netOf
   passes-unwanted l = rw (lt-leb (want .least) (held m x (want .ends)) l)
 
-  pub passes-broken : (i : ℕ) → i < n → obeys m (ruleOf i) x ≡ false → passes m net x ≡ false
-  passes-broken i l h = false-if (passes m net x) (λ e. never (obeys m (ruleOf i) x) (passes-rule e i l) h)
+  pub passes-broken : (i : ℕ) → i < size net → (r : Rule) → r ≡ ruleAt net i → obeys m r x ≡ false → passes m (netOf net want) x ≡ false
+  passes-broken i l r q h = false-if (passes m (netOf net want) x) (λ e. never (obeys m r x) (obeyed e i l r q) h)
 
 -- ---- a larger width, for sets of m ends
 module _ (m r x : ℕ) (small : x < 2 ^ m) where

@@ -8,11 +8,12 @@ use native.Mathlib.Omega.{arith}
 use lib.Pow.{pow-mono, pow-pos, pow-add}
 use Rattle.paper.specs.Lists.{has}
 use Rattle.paper.proofs.Bools.{never, false-if}
-use Rattle.paper.proofs.Digits.{in-digit, out-digit, has-none}
+use Rattle.paper.proofs.Digits.{in-digit, out-digit, has-zero}
 use Rattle.paper.proofs.Choices.{first-unique}
 use Rattle.paper.proofs.Search.{look, Finds, look-finds, look-first, found-first}
 use Rattle.net.specs.declared.Bounds.{Bounds}
 use Rattle.net.specs.declared.Place.{Place}
+use Rattle.net.specs.declared.View.{View}
 use Rattle.net.specs.declared.Visit.{Visit}
 use Rattle.net.specs.declared.Visit.the-variants.{Choice, Nothing}
 use Rattle.net.specs.declared.Found.{Found}
@@ -62,9 +63,6 @@ halves l h = let e : l + 1 ≡ suc (l - 1 + 1) = omega arith in rw (e, pow-suc 2
 pub few-states : (l m : ℕ) → l ≤ m → m ≤ 20 → 2 ^ (l + 1) ≤ 2097152
 few-states l m h k = let e : l + 1 ≤ 21 = omega arith in pow-mono e
 
-pub small-weight : (l m : ℕ) → 1 ≤ l → m ≤ 20 → 2 ^ (m - l) ≤ 524288
-small-weight l m h k = let e : m - l ≤ 19 = omega arith in pow-mono e
-
 -- ---- scouting
 not-sure : (c : ℕ) → some c ≡ none → ⊥
 not-sure c e = let q : _≡_ {A = ℕ} 0 1 = cc in omega arith
@@ -104,61 +102,86 @@ abbrev pub taking : Place → Place
 taking p = stepped p (p .bit)
 
 abbrev pub leaving : Place → Place
-leaving p = record { left = p .left - 1; bit = p .bit * 2; taken = p .taken }
+leaving p = record { bit = p .bit * 2; taken = p .taken }
 
 pub stepped-leaving : (p : Place) → stepped p 0 ≡ leaving p
-stepped-leaving p = ap (λ (t : ℕ). record { left = p .left - 1; bit = p .bit * 2; taken = t }) (add-zero (p .taken))
+stepped-leaving p = ap (λ (t : ℕ). record { bit = p .bit * 2; taken = t }) (add-zero (p .taken))
 
-module _ (m : ℕ) (p : Place) (placed : Placed m p) (some-open : 1 ≤ p .left) where
-  next : m - (p .left - 1) ≡ suc (m - p .left)
+module _ (m left : ℕ) (p : Place) (placed : Placed m left p) (some-open : 1 ≤ left) where
+  next : m - (left - 1) ≡ suc (m - left)
   next = let f = placed .few in omega arith
 
-  double : 2 ^ (m - (p .left - 1)) ≡ p .bit * 2
-  double = rw (next, pow-suc 2 (m - p .left), placed .weight)
+  double : 2 ^ (m - (left - 1)) ≡ p .bit * 2
+  double = rw (next, pow-suc 2 (m - left), placed .weight)
 
-  pub placed-taking : Placed m (taking p)
+  pub small-weight : m ≤ 20 → p .bit ≤ 524288
+  small-weight h = let e : m - left ≤ 19 = omega arith in omega (arith, placed .weight, pow-mono e)
+
+  pub placed-taking : Placed m (left - 1) (taking p)
   placed-taking = record {
     few = let f = placed .few in omega arith;
     weight = sym double;
     small = let s = placed .small in omega arith;
   }
 
-  pub placed-leaving : Placed m (leaving p)
+  pub placed-leaving : Placed m (left - 1) (leaving p)
   placed-leaving = record {
     few = let f = placed .few in omega arith;
     weight = sym double;
     small = let s = placed .small in omega arith;
   }
 
+-- what is known of a place that was surveyed
+pub record Known (w : ℕ → Bool) (m left : ℕ) (p : Place) (b : Bounds) (view : View) : Type 0 where
+  pub most : m ≤ 20
+  pub placed : Placed m left p
+  pub kept : Keeps w b (view .low)
+  pub some-seen : 1 ≤ view .states
+  pub most-seen : view .states ≤ 2097152
+
+-- only the sets without the first open end are left, after so many states
+pub record Past (w : ℕ → Bool) (m left : ℕ) (p : Place) (b : Bounds) (t : ℕ) : Type 0 where
+  pub without : Confined w m (m - left) (p .taken) b → look w left (m - left) (p .taken) ≡ look w (left - 1) (suc (m - left)) (p .taken)
+  pub some-seen : 1 ≤ t
+  pub most-seen : t ≤ 2097152 * 2 ^ (left - 1 + 1)
+
 -- ---- ways to answer
-module _ (w : ℕ → Bool) (m : ℕ) (p : Place) (b low : Bounds) (most : m ≤ 20) (placed : Placed m p) (kept : Keeps w b low)
-    (here : ℕ) (some-here : 1 ≤ here) (most-here : here ≤ 2097152) where
+module _ {w : ℕ → Bool} {m left : ℕ} {p : Place} {b : Bounds} {view : View} (known : Known w m left p b view) where
   abbrev k : ℕ
-  k = m - p .left
+  k = m - left
+
+  abbrev low : Bounds
+  low = view .low
+
+  abbrev here : ℕ
+  here = view .states
+
+  placed : Placed m left p
+  placed = known .placed
 
   small : p .taken < 2 ^ k
   small = rw (← placed .weight) (placed .small)
 
-  width : k + p .left ≡ m
+  width : k + left ≡ m
   width = let f = placed .few in omega arith
 
   low-too : Confined w m k (p .taken) b → Confined w m k (p .taken) low
-  low-too all = λ x l s e. kept x e (all x l s e)
+  low-too all = λ x l s e. known .kept x e (all x l s e)
 
-  few-here : here + 2097152 ≤ 2097152 * 2 ^ (p .left + 1)
-  few-here = omega (arith, two-more (p .left))
+  few-here : here + 2097152 ≤ 2097152 * 2 ^ (left + 1)
+  few-here = omega (arith, two-more left)
 
   -- nothing lies between the bounds
-  pub ends-dead : NoneIn w low → Visited w m p b (Nothing here)
+  pub ends-dead : NoneIn w low → Visited w m left p b (Nothing here)
   ends-dead h = record {
     finds = λ all.
-        sym (look-none w (p .left) k (p .taken) small (λ x l s. false-if (w x) (λ e. h x e (low-too all x (rw width at l) s e))));
+        sym (look-none w left k (p .taken) small (λ x l s. false-if (w x) (λ e. h x e (low-too all x (rw width at l) s e))));
     some-seen = omega arith;
     most-seen = few-here;
   }
 
   -- no end is open
-  pub ends-leaf : p .left ≡ 0 → (t : Bool) → t ≡ w (p .taken) → Visited w m p b (cond t (Choice (p .taken) here) (Nothing here))
+  pub ends-leaf : left ≡ 0 → (t : Bool) → t ≡ w (p .taken) → Visited w m left p b (cond t (Choice (p .taken) here) (Nothing here))
   ends-leaf z true e = record {
     finds = λ all. sym (rw z (look-leaf w _ (p .taken) (sym e)));
     some-seen = omega arith;
@@ -170,108 +193,108 @@ module _ (w : ℕ → Bool) (m : ℕ) (p : Place) (b low : Bounds) (most : m ≤
     most-seen = few-here;
   }
 
-  module _ (some-open : 1 ≤ p .left) where
+  module _ (some-open : 1 ≤ left) where
     in-words : k < 32
     in-words = let f = placed .few in omega arith
 
-    after-k : m - (p .left - 1) ≡ suc k
-    after-k = next m p placed some-open
+    after-k : m - (left - 1) ≡ suc k
+    after-k = next m left p placed some-open
 
-    wide : suc k + (p .left - 1) ≡ m
+    wide : suc k + (left - 1) ≡ m
     wide = let g = width in omega arith
 
-    seen-half : 2 ^ (p .left + 1) ≡ 2 ^ (p .left - 1 + 1) + 2 ^ (p .left - 1 + 1)
-    seen-half = halves (p .left) some-open
+    seen-half : 2 ^ (left + 1) ≡ 2 ^ (left - 1 + 1) + 2 ^ (left - 1 + 1)
+    seen-half = halves left some-open
 
     -- the sets with the first open end, and those without it
     confined-in : (c : Bounds) → ((j : ℕ) → p .bit ≡ 2 ^ j → Keeps (λ x. has x j) low c) → Confined w m k (p .taken) b
-        → Confined w m (m - (p .left - 1)) (p .taken + p .bit) c
+        → Confined w m (m - (left - 1)) (p .taken + p .bit) c
     confined-in c f all = rw (after-k, placed .weight) (λ x l s e.
         let d = in-digit x k (p .taken) small s in
         f k (placed .weight) x (d .0) (low-too all x l (d .1) e))
 
     confined-out : (c : Bounds) → Keeps (λ x. not (meets 32 x (p .bit))) low c → Confined w m k (p .taken) b
-        → Confined w m (m - (p .left - 1)) (p .taken) c
+        → Confined w m (m - (left - 1)) (p .taken) c
     confined-out c f all = rw after-k (λ x l s e.
         let d = out-digit x k (p .taken) small s in
         f x (rw (placed .weight, meets-one 32 x k in-words, d .0)) (low-too all x l (d .1) e))
 
-    module _ (c : Bounds) (f : Visit) (adds : (j : ℕ) → p .bit ≡ 2 ^ j → Keeps (λ x. has x j) low c) (took : Visited w m (taking p) c f) where
-      looked : Confined w m k (p .taken) b → said f ≡ look w (p .left - 1) (suc k) (p .taken + 2 ^ k)
+    module _ (c : Bounds) (f : Visit) (adds : (j : ℕ) → p .bit ≡ 2 ^ j → Keeps (λ x. has x j) low c) (took : Visited w m (left - 1) (taking p) c f) where
+      looked : Confined w m k (p .taken) b → said f ≡ look w (left - 1) (suc k) (p .taken + 2 ^ k)
       looked all = took .finds (confined-in c adds all) ∙ rw (after-k, placed .weight)
 
       -- found with the end
-      pub finds-with : (s n : ℕ) → f ≡ Choice s n → Visited w m p b (Choice s (n + here))
+      pub finds-with : (s n : ℕ) → f ≡ Choice s n → Visited w m left p b (Choice s (n + here))
       finds-with s n e =
           let q : seen f ≡ n = ap seen e in
           let o = took .most-seen in
           record {
-            finds = λ all. sym (look-take w (p .left) k (p .taken) s some-open (sym (looked all) ∙ ap said e));
+            finds = λ all. sym (look-take w left k (p .taken) s some-open (sym (looked all) ∙ ap said e));
             some-seen = omega arith;
             most-seen = omega (arith, seen-half, took .some-seen);
           }
 
-      module _ (n : ℕ) (e : f ≡ Nothing n) where
-        left-over : Confined w m k (p .taken) b → look w (p .left) k (p .taken) ≡ look w (p .left - 1) (suc k) (p .taken)
-        left-over all = look-leave w (p .left) k (p .taken) some-open (sym (looked all) ∙ ap said e)
-
-        -- nothing with the end, and none without it
-        pub finds-none : meets 32 (low .must) (p .bit) ≡ true → (t : ℕ) → t ≡ seen f + here → Visited w m p b (Nothing t)
-        finds-none h t q =
-            let o = took .most-seen in
-            record {
-              finds = λ all. sym (left-over all ∙ look-none w (p .left - 1) (suc k) (p .taken) (rw (pow-suc 2 k) (let s = small in omega arith)) (none-left all));
-              some-seen = omega arith;
-              most-seen = omega (arith, seen-half, took .some-seen);
-            }
-          where
-            holds : has (low .must) k ≡ true
-            holds = sym (meets-one 32 (low .must) k in-words) ∙ ap (meets 32 (low .must)) (sym (placed .weight)) ∙ h
-
-            none-left : Confined w m k (p .taken) b → (x : ℕ) → x < 2 ^ (suc k + (p .left - 1)) → x % 2 ^ suc k ≡ p .taken → w x ≡ false
-            none-left all x l s =
-                let d = out-digit x k (p .taken) small s in
-                false-if (w x) (λ i. never (has x k) (low-too all x (rw wide at l) (d .1) i .above k in-words holds) (d .0))
-
-        -- nothing with the end: what is found without it
-        pub finds-without : (o : Bounds) → Keeps (λ x. not (meets 32 x (p .bit))) low o → (v : Visit) → Visited w m (leaving p) o v
-            → (t : ℕ) → t ≡ seen f + here → (r : Visit) → said r ≡ said v → seen r ≡ t + seen v → Visited w m p b r
-        finds-without o strikes v left t q r same more =
-            let g = took .most-seen in
-            let i = left .most-seen in
-            record {
-              finds = λ all. same ∙ left .finds (confined-out o strikes all) ∙ rw after-k (sym (left-over all));
-              some-seen = omega arith;
-              most-seen = omega (arith, seen-half);
-            }
+      -- nothing with the end
+      pub past-with : (n : ℕ) → f ≡ Nothing n → (t : ℕ) → t ≡ seen f + here → Past w m left p b t
+      past-with n e t q = record {
+        without = λ all. look-leave w left k (p .taken) some-open (sym (looked all) ∙ ap said e);
+        some-seen = omega arith;
+        most-seen = omega (arith, took .most-seen);
+      }
 
     -- the end is struck already
-    pub finds-struck : meets 32 (low .may) (p .bit) ≡ false → (o : Bounds) → Keeps (λ x. not (meets 32 x (p .bit))) low o → (v : Visit)
-        → Visited w m (leaving p) o v → (r : Visit) → said r ≡ said v → seen r ≡ here + seen v → Visited w m p b r
-    finds-struck h o strikes v left r same more =
-        let i = left .most-seen in
-        record {
-          finds = λ all. same ∙ left .finds (confined-out o strikes all) ∙ rw after-k (sym (look-leave w (p .left) k (p .taken) some-open (look-none w (p .left - 1) (suc k) (p .taken + 2 ^ k) (rw (pow-suc 2 k) (let s = small in omega arith)) (none-in all))));
-          some-seen = omega arith;
-          most-seen = omega (arith, seen-half, left .some-seen);
-        }
+    pub past-struck : meets 32 (low .may) (p .bit) ≡ false → Past w m left p b here
+    past-struck h = record {
+      without = λ all. look-leave w left k (p .taken) some-open (look-none w (left - 1) (suc k) (p .taken + 2 ^ k) (rw (pow-suc 2 k) (let s = small in omega arith)) (none-in all));
+      some-seen = omega arith;
+      most-seen = omega (arith, two-more (left - 1));
+    }
       where
         lacks : has (low .may) k ≡ false
         lacks = sym (meets-one 32 (low .may) k in-words) ∙ ap (meets 32 (low .may)) (sym (placed .weight)) ∙ h
 
-        none-in : Confined w m k (p .taken) b → (x : ℕ) → x < 2 ^ (suc k + (p .left - 1)) → x % 2 ^ suc k ≡ p .taken + 2 ^ k → w x ≡ false
+        none-in : Confined w m k (p .taken) b → (x : ℕ) → x < 2 ^ (suc k + (left - 1)) → x % 2 ^ suc k ≡ p .taken + 2 ^ k → w x ≡ false
         none-in all x l s =
             let d = in-digit x k (p .taken) small s in
             false-if (w x) (λ i. never (has (low .may) k) (low-too all x (rw wide at l) (d .1) i .under k in-words (d .0)) lacks)
 
+    module _ (t : ℕ) (past : Past w m left p b t) where
+      -- and none is without it
+      pub finds-none : meets 32 (low .must) (p .bit) ≡ true → Visited w m left p b (Nothing t)
+      finds-none h = record {
+        finds = λ all. sym (past .without all ∙ look-none w (left - 1) (suc k) (p .taken) (rw (pow-suc 2 k) (let s = small in omega arith)) (none-left all));
+        some-seen = past .some-seen;
+        most-seen = omega (arith, seen-half, past .most-seen, two-more (left - 1));
+      }
+        where
+          holds : has (low .must) k ≡ true
+          holds = sym (meets-one 32 (low .must) k in-words) ∙ ap (meets 32 (low .must)) (sym (placed .weight)) ∙ h
+
+          none-left : Confined w m k (p .taken) b → (x : ℕ) → x < 2 ^ (suc k + (left - 1)) → x % 2 ^ suc k ≡ p .taken → w x ≡ false
+          none-left all x l s =
+              let d = out-digit x k (p .taken) small s in
+              false-if (w x) (λ i. never (has x k) (low-too all x (rw wide at l) (d .1) i .above k in-words holds) (d .0))
+
+      -- what is found without it
+      pub finds-without : (o : Bounds) → Keeps (λ x. not (meets 32 x (p .bit))) low o → (v : Visit) → Visited w m (left - 1) (leaving p) o v
+          → (r : Visit) → said r ≡ said v → seen r ≡ t + seen v → Visited w m left p b r
+      finds-without o strikes v rest r same more =
+          let g = past .most-seen in
+          let i = rest .most-seen in
+          record {
+            finds = λ all. same ∙ rest .finds (confined-out o strikes all) ∙ rw after-k (sym (past .without all));
+            some-seen = omega (arith, past .some-seen);
+            most-seen = omega (arith, seen-half);
+          }
+
 -- ---- the whole search
 pub confined-start : (w : ℕ → Bool) (m top : ℕ) → top ≡ 2 ^ m → Confined w m (m - m) 0 (record { must = 0; may = top - 1 })
 confined-start w m top e = λ x l s h. record {
-  above = λ k i g. never (has 0 k) g (has-none k);
+  above = λ k i g. never (has 0 k) g (has-zero k);
   under = λ k i g. rw e (has-all m x k l g);
 }
 
-pub placed-start : (m : ℕ) → Placed m (record { left = m; bit = 1; taken = 0 })
+pub placed-start : (m : ℕ) → Placed m m (record { bit = 1; taken = 0 })
 placed-start m = record {
   few = omega arith;
   weight = let e : m - m ≡ 0 = omega arith in rw e;
@@ -297,7 +320,7 @@ module _ (w : ℕ → Bool) (m top : ℕ) (is-top : top ≡ 2 ^ m) where
       )
 
   -- it leaves the search something to find
-  pub whole-found : (v : Visit) → Visited w m (record { left = m; bit = 1; taken = 0 }) (record { must = 0; may = top - 1 }) v → (n : ℕ) → n < 2 ^ (m + 1) → m ≤ 20
+  pub whole-found : (v : Visit) → Visited w m m (record { bit = 1; taken = 0 }) (record { must = 0; may = top - 1 }) v → (n : ℕ) → n < 2 ^ (m + 1) → m ≤ 20
       → (r : Visit) → said r ≡ said v → seen r ≡ n + seen v → (said r ≡ look w m 0 0) × ((1 ≤ seen r) × (seen r < 2 ^ (m + 22)))
   whole-found v visited n few most r same more = (
     same ∙ visited .finds (confined-start w m top is-top) ∙ looks-all w m,

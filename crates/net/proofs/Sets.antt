@@ -3,11 +3,11 @@ use mathlib.Core.Path.{_≡_, refl, sym, ap, _∙_}
 use mathlib.Core.Logic.{⊎-elim}
 use mathlib.Core.Bool.{Bool, true, false, not, _&&_, _||_}
 use Prim.Native.Nat.{ℕ, zero, suc, _+_, _-_, _*_, _/_, _%_, _^_, _≤_, _<_, min, max}
-use native.Mathlib.Nat.{mod-lt, mod-eq-of-lt, mod-self, zero-lt-suc, one-mul, le-refl, div-eq-of-lt, lt-of-le-of-lt, zero-add}
+use native.Mathlib.Nat.{mod-lt, mod-eq-of-lt, mod-self, zero-lt-suc, le-refl, div-eq-of-lt, lt-of-le-of-lt, zero-add}
 use native.Mathlib.Omega.{arith}
 use native.Mathlib.Decide.{decLt}
 use lib.Dec.{eqb, leb}
-use lib.Pow.{pow-lt, pow-pos, pow-mono, shl-exact}
+use lib.Pow.{pow-lt, pow-pos}
 use lib.Bits.{bitAnd, bitOr, bitXor, differ, and-shr, and-step, or-shr, or-step, xor-shr, xor-step, and-le-l, and-mask}
 use lib.Count.{ones, ones-cat, ones-step}
 use borrow.Author.Tests.{eq-eqb, eqb-true, eqb-false, le-leb, lt-leb}
@@ -15,7 +15,8 @@ use Rattle.paper.specs.Lists.{has, below, count, any, oneIf}
 use Rattle.paper.proofs.Bools.{never, and-true, and-both, true-or-false, false-if}
 use Rattle.paper.proofs.Counts.{count-below, count-most}
 use Rattle.paper.proofs.Members.{any-count, any-in, in-any, below-in, in-below}
-use Rattle.paper.proofs.Digits.{has-mod, has-none, digit-in, digit-out, in-digit}
+use Rattle.paper.proofs.Digits.{has-mod, has-zero, digit-in, digit-out, in-digit}
+use Rattle.paper.proofs.Bits.{has-high}
 use Rattle.net.specs.Net.{inBoth, held, meets}
 use Rattle.net.specs.Bounds.{Without}
 
@@ -67,9 +68,6 @@ has-without c d k =
     ∙ digits (λ a b. eqb (differ a (min a b)) 1 ≡ eqb a 1 && not (eqb b 1)) refl refl refl refl (c / 2 ^ k % 2) (d / 2 ^ k % 2) (digit-lt c k) (digit-lt d k)
 
 -- a shifted one
-pub one-shl : (k w : ℕ) → k < w → (1 * 2 ^ k) % 2 ^ w ≡ 2 ^ k
-one-shl k w h = shl-exact 1 k w (omega arith) (omega arith) ∙ one-mul (2 ^ k)
-
 -- a power is the set of one end
 pub has-power : (k : ℕ) → has (2 ^ k) k ≡ true
 has-power k =
@@ -78,7 +76,7 @@ has-power k =
 pub has-power-other : (k j : ℕ) → has (2 ^ k) j ≡ true → j ≡ k
 has-power-other k j h =
     elim (decLt j k) [
-      | yes l ↦ never (has (2 ^ k) j) h (sym (has-mod (2 ^ k) k j l) ∙ ap (λ (z : ℕ). has z j) (mod-self (2 ^ k)) ∙ has-none j)
+      | yes l ↦ never (has (2 ^ k) j) h (sym (has-mod (2 ^ k) k j l) ∙ ap (λ (z : ℕ). has z j) (mod-self (2 ^ k)) ∙ has-zero j)
       | no l ↦
           elim (decLt k j) [
             | yes g ↦ never (has (2 ^ k) j) h (ap (λ (z : ℕ). eqb (z % 2) 1) (div-eq-of-lt (pow-lt g)))
@@ -87,9 +85,6 @@ has-power-other k j h =
     ]
 
 -- no end is past the width
-pub has-past : (x n k : ℕ) → x < 2 ^ n → n ≤ k → has x k ≡ false
-has-past x n k l h = let g : 2 ^ n ≤ 2 ^ k = pow-mono h in ap (λ (z : ℕ). eqb (z % 2) 1) (div-eq-of-lt (let q : x < 2 ^ k = omega arith in q))
-
 -- all ends below m
 pub has-all : (m x k : ℕ) → x < 2 ^ m → has x k ≡ true → has (2 ^ m - 1) k ≡ true
 has-all m x k l h =
@@ -173,7 +168,7 @@ unfolding held
 held-wider x d m zero l = let e : m + 0 ≡ m = omega arith in rw e
 held-wider x d m (suc r) l =
     let e : m + suc r ≡ suc (m + r) = omega arith in
-    let f : inBoth x d (m + r) ≡ false = rw (has-past x m (m + r) l (omega arith)) in
+    let f : inBoth x d (m + r) ≡ false = rw (has-high x m (m + r) l (omega arith)) in
     rw (e, count-below (inBoth x d) (m + r), f) (let h : count (inBoth x d) (below (m + r)) ≡ count (inBoth x d) (below m) = held-wider x d m r l in omega arith)
 
 -- ---- the ones of a word

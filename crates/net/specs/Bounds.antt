@@ -16,9 +16,9 @@ use Rattle.net.specs.declared.Visit.{Visit}
 use Rattle.net.specs.declared.Visit.the-variants.{Choice, Nothing}
 use Rattle.net.specs.Net.{held, meets, passes, netOf}
 
--- a word passes the net in the four columns
-abbrev pub good : List ℕ → List ℕ → List ℕ → List ℕ → ℕ → Wanted → ℕ → Bool
-good when only lo hi n want = passes 32 (netOf when only lo hi n want)
+-- a word passes the net
+abbrev pub good : List ℕ → Wanted → ℕ → Bool
+good net want = passes 32 (netOf net want)
 
 -- each end in a is in b
 abbrev pub Part : ℕ → ℕ → Type 0
@@ -66,14 +66,14 @@ abbrev pub Confined : (ℕ → Bool) → ℕ → ℕ → ℕ → Bounds → Type
 Confined passing m k taken b = (x : ℕ) → x < 2 ^ m → x % 2 ^ k ≡ taken → passing x ≡ true → Between b x
 
 -- of m ends the last `left` are open, `bit` is the weight of the first of these, and `taken` holds the choice for those before it
-pub record Placed (m : ℕ) (p : Place) : Type 0 where
-  pub few : p .left ≤ m
-  pub weight : p .bit ≡ 2 ^ (m - p .left)
+pub record Placed (m left : ℕ) (p : Place) : Type 0 where
+  pub few : left ≤ m
+  pub weight : p .bit ≡ 2 ^ (m - left)
   pub small : p .taken < p .bit
 
--- one end less is open, and `end` is taken
+-- the next end, and `end` is taken
 abbrev pub stepped : Place → ℕ → Place
-stepped p end = record { left = p .left - 1; bit = p .bit * 2; taken = p .taken + end }
+stepped p end = record { bit = p .bit * 2; taken = p .taken + end }
 
 abbrev pub said : Visit → Option ℕ
 said (Choice c n) = some c
@@ -97,7 +97,7 @@ pub record Surveyed (passing : ℕ → Bool) (end : ℕ) (b : Bounds) (v : View)
 
 -- the search from a place finds what `look`, the search through all sets, does, if all that pass lie between the bounds; and it visits a state at
 -- least, and for each part of the open ends no more than a survey does
-pub record Visited (passing : ℕ → Bool) (m : ℕ) (p : Place) (b : Bounds) (v : Visit) : Type 0 where
-  pub finds : Confined passing m (m - p .left) (p .taken) b → said v ≡ look passing (p .left) (m - p .left) (p .taken)
+pub record Visited (passing : ℕ → Bool) (m left : ℕ) (p : Place) (b : Bounds) (v : Visit) : Type 0 where
+  pub finds : Confined passing m (m - left) (p .taken) b → said v ≡ look passing left (m - left) (p .taken)
   pub some-seen : 1 ≤ seen v
-  pub most-seen : seen v + 2097152 ≤ 2097152 * 2 ^ (p .left + 1)
+  pub most-seen : seen v + 2097152 ≤ 2097152 * 2 ^ (left + 1)

@@ -1,6 +1,6 @@
 -- Rules over sets of ends, nets of rules, and the sets that pass them. A set of m ends is a number below 2 ^ m; end k is in it if its digit k is 1.
 -- Assumes nothing.
-use Prim.Native.Nat.{ℕ, _^_, _≤_, _<_}
+use Prim.Native.Nat.{ℕ, _+_, _*_, _/_, _^_, _<_}
 use mathlib.Core.Path.{_≡_}
 use mathlib.Core.Bool.{Bool, false, _&&_}
 use mathlib.Core.List.{List}
@@ -9,6 +9,7 @@ use lib.ListN.{length}
 use Rattle.paper.specs.Lists.{has, below, all, any, count, each, at, within, _⇒_}
 use Rattle.paper.specs.Choices.{FirstOf}
 use Rattle.net.specs.declared.Wanted.{Wanted}
+use Rattle.net.specs.declared.Rule.{Rule}
 use Rattle.net.specs.declared.Found.{Found}
 use Rattle.net.specs.declared.Found.the-variants.{Choice, Nothing}
 
@@ -23,16 +24,10 @@ held m c d = count (inBoth c d) (below m)
 unfoldable pub meets : ℕ → ℕ → ℕ → Bool
 meets m c d = any (inBoth c d) (below m)
 
--- a set that meets `when` holds at least lo and at most hi of the ends in `only`
-pub record Rule : Type 0 where
-  pub when : ℕ
-  pub only : ℕ
-  pub lo : ℕ
-  pub hi : ℕ
-
 abbrev pub rule : ℕ → ℕ → ℕ → ℕ → Rule
 rule when only lo hi = record { when = when; only = only; lo = lo; hi = hi }
 
+-- a set that meets `when` holds at least lo and at most hi of the ends in `only`
 unfoldable pub obeys : ℕ → Rule → ℕ → Bool
 obeys m r c = meets m c (r .when) ⇒ within (r .lo) (r .hi) (held m c (r .only))
 
@@ -59,18 +54,15 @@ floor whens those lo = rule whens those lo 32
 abbrev pub cap : ℕ → ℕ → Rule
 cap them hi = rule them them 0 hi
 
--- ---- a net as the code is lent it: four columns, of which the first n entries count
-abbrev pub ruleAt : List ℕ → List ℕ → List ℕ → List ℕ → ℕ → Rule
-ruleAt when only lo hi i = rule (at when i) (at only i) (at lo i) (at hi i)
+-- ---- a net as the code is lent it: each rule in four cells side by side
+abbrev pub size : List ℕ → ℕ
+size net = length net / 4
 
-unfoldable pub netOf : List ℕ → List ℕ → List ℕ → List ℕ → ℕ → Wanted → Net
-netOf when only lo hi n want = record { rules = each (ruleAt when only lo hi) (below n); wanted = want .ends; least = want .least }
+abbrev pub ruleAt : List ℕ → ℕ → Rule
+ruleAt net i = rule (at net (4 * i)) (at net (4 * i + 1)) (at net (4 * i + 2)) (at net (4 * i + 3))
 
-pub record Columns (when only lo hi : List ℕ) (n : ℕ) : Type 0 where
-  pub whens : n ≤ length when
-  pub onlys : n ≤ length only
-  pub los : n ≤ length lo
-  pub his : n ≤ length hi
+unfoldable pub netOf : List ℕ → Wanted → Net
+netOf net want = record { rules = each (ruleAt net) (below (size net)); wanted = want .ends; least = want .least }
 
 -- ---- the first set of m ends that passes, or that none does
 unfoldable pub Answers : Net → ℕ → Found → Type 0

@@ -2,16 +2,15 @@
 // the net and the ends that are wanted. What makes it fast is pruning: bounds that are drawn together, and never lose a set that passes; and scouting:
 // before an end is taken that no set in view has, some set with it is looked for in the order of the rules that lack ends, so that what can't be
 // served is found out at once, however many ends stand before it.
-// Assumes nothing. A net is four lent columns, a rule in each row, and the number of its rules.
+// Assumes nothing. A net is a lent slice, each rule in four cells side by side.
 ghost use mathlib.Core.Path.{_≡_};
 ghost use mathlib.Core.Bool.{Bool, true, false, not, cond};
-ghost use mathlib.Core.List.{List};
 ghost use Prim.Native.Nat.{ℕ, _+_, _*_, _-_, _^_, _≤_, _<_};
 ghost use lib.Dec.{leb};
 ghost use lib.ListN.{length};
 ghost use Rattle.paper.specs.Lists.{has};
 ghost use Rattle.paper.proofs.Search.{look};
-ghost use Rattle.net.specs.Net.{held, meets, rule, obeys, Columns, netOf, Answers};
+ghost use Rattle.net.specs.Net.{held, meets, obeys, size, ruleAt, netOf, Answers};
 ghost use Rattle.net.specs.Bounds.{good, Without, Keeps, NoneIn, Shuns, Foes, Huddled, Most, Asks, Placed, stepped, said, seen, Scouted, Surveyed, Visited};
 
 // At least so many of these ends are wanted; `least` is 0 where none is named.
@@ -26,6 +25,14 @@ pub enum Found {
     Nothing,
 }
 
+// A set that meets `when` holds at least lo and at most hi of the ends in `only`.
+pub struct Rule {
+    pub when: u32,
+    pub only: u32,
+    pub lo: u32,
+    pub hi: u32,
+}
+
 // What is known of the sets still looked for: they hold all of `must`, and nothing that isn't in `may`.
 struct Bounds {
     must: u32,
@@ -38,9 +45,8 @@ struct Group {
     common: u32,
 }
 
-// Where the search is: how many ends are open, the weight of the first of them, and the ends taken before it.
+// Where the search is: the weight of the first open end, and the ends taken before it.
 struct Place {
-    left: usize,
     bit: u32,
     taken: u32,
 }
@@ -81,37 +87,50 @@ fn without(c: u32, d: u32) -> u32
     c ^ (c & d)
 }
 
-// The set of end k alone.
-fn only_end(k: usize) -> u32
-    requires { ⌜ k < 32 ⌝ }
-    ensures { λ r. ⌜ r ≡ 2 ^ k ⌝ }
-{
-    1 << (k as u32)
-}
-
 // ---- one rule
 
-fn obeys(when: u32, only: u32, lo: u32, hi: u32, c: u32) -> bool
-    ensures { λ r. ⌜ r ≡ obeys 32 (rule when only lo hi) c ⌝ }
+// How many rules a net has.
+fn size(net: &[u32]) -> usize
+    ensures { λ r. ⌜ r ≡ size (now (net .entry)) ⌝ }
 {
-    if !meets(c, when) {
+    net.len() / 4
+}
+
+// Rule i of a net.
+fn rule_at(net: &[u32], i: usize) -> Rule
+    requires { ⌜ i < size (now net) ⌝ }
+    ensures { λ r. ⌜ r ≡ ruleAt (now (net .entry)) i ⌝ }
+{
+    let j = 4 * i;
+    Rule {
+        when: net[j],
+        only: net[j + 1],
+        lo: net[j + 2],
+        hi: net[j + 3],
+    }
+}
+
+fn obeys(rule: Rule, c: u32) -> bool
+    ensures { λ r. ⌜ r ≡ obeys 32 rule c ⌝ }
+{
+    if !meets(c, rule.when) {
         return true;
     }
-    let k = held(c, only);
-    lo <= k && k <= hi
+    let k = held(c, rule.only);
+    rule.lo <= k && k <= rule.hi
 }
 
 // No set between the bounds obeys the rule.
-fn fails(when: u32, only: u32, lo: u32, hi: u32, b: Bounds) -> bool
-    ensures { λ r. ⌜ (r ≡ true → NoneIn (obeys 32 (rule when only lo hi)) b) ⌝ }
+fn fails(rule: Rule, b: Bounds) -> bool
+    ensures { λ r. ⌜ (r ≡ true → NoneIn (obeys 32 rule) b) ⌝ }
 {
-    if !meets(b.must, when) {
+    if !meets(b.must, rule.when) {
         return false;
     }
-    if held(b.may, only) < lo {
+    if held(b.may, rule.only) < rule.lo {
         return true;
     }
-    hi < held(b.must, only)
+    rule.hi < held(b.must, rule.only)
 }
 
 // Of sets with at least so many of these ends: where there are no more, all of them are taken.
@@ -161,17 +180,17 @@ fn add(end: u32, b: Bounds) -> Bounds
 }
 
 // What a rule leaves between the bounds.
-fn tighten_by(when: u32, only: u32, lo: u32, hi: u32, b: Bounds) -> Bounds
-    ensures { λ r. ⌜ Keeps (obeys 32 (rule when only lo hi)) b r ⌝ }
+fn tighten_by(rule: Rule, b: Bounds) -> Bounds
+    ensures { λ r. ⌜ Keeps (obeys 32 rule) b r ⌝ }
 {
-    if meets(b.must, when) {
-        return raise(only, lo, fill(only, hi, b));
+    if meets(b.must, rule.when) {
+        return raise(rule.only, rule.lo, fill(rule.only, rule.hi, b));
     }
-    if held(b.may, only) < lo {
-        return strike(when, b);
+    if held(b.may, rule.only) < rule.lo {
+        return strike(rule.when, b);
     }
-    if hi < held(b.must, only) {
-        return strike(when, b);
+    if rule.hi < held(b.must, rule.only) {
+        return strike(rule.when, b);
     }
     b
 }
@@ -179,24 +198,16 @@ fn tighten_by(when: u32, only: u32, lo: u32, hi: u32, b: Bounds) -> Bounds
 // ---- all rules
 
 // The set c passes the net and holds what is wanted.
-fn passes(
-    when: &[u32],
-    only: &[u32],
-    lo: &[u32],
-    hi: &[u32],
-    n: usize,
-    want: Wanted,
-    c: u32,
-) -> bool
-    requires { ⌜ Columns (now when) (now only) (now lo) (now hi) n ⌝ }
-    ensures { λ r. ⌜ r ≡ good (now (when .entry)) (now (only .entry)) (now (lo .entry)) (now (hi .entry)) n want c ⌝ }
+fn passes(net: &[u32], want: Wanted, c: u32) -> bool
+    ensures { λ r. ⌜ r ≡ good (now (net .entry)) want c ⌝ }
 {
     if held(c, want.ends) < want.least {
         return false;
     }
+    let n = size(net);
     let mut i: usize = 0;
     while i < n {
-        if !obeys(when[i], only[i], lo[i], hi[i], c) {
+        if !obeys(rule_at(net, i), c) {
             return false;
         }
         i += 1;
@@ -205,17 +216,8 @@ fn passes(
 }
 
 // No set between the bounds passes, by some rule or by what is wanted alone.
-fn is_dead(
-    when: &[u32],
-    only: &[u32],
-    lo: &[u32],
-    hi: &[u32],
-    n: usize,
-    want: Wanted,
-    b: Bounds,
-) -> bool
-    requires { ⌜ Columns (now when) (now only) (now lo) (now hi) n ⌝ }
-    ensures { λ r. ⌜ (r ≡ true → NoneIn (good (now (when .entry)) (now (only .entry)) (now (lo .entry)) (now (hi .entry)) n want) b) ⌝ }
+fn is_dead(net: &[u32], want: Wanted, b: Bounds) -> bool
+    ensures { λ r. ⌜ (r ≡ true → NoneIn (good (now (net .entry)) want) b) ⌝ }
 {
     if b.must & b.may != b.must {
         return true;
@@ -223,9 +225,10 @@ fn is_dead(
     if held(b.may, want.ends) < want.least {
         return true;
     }
+    let n = size(net);
     let mut i: usize = 0;
     while i < n {
-        if fails(when[i], only[i], lo[i], hi[i], b) {
+        if fails(rule_at(net, i), b) {
             return true;
         }
         i += 1;
@@ -234,22 +237,14 @@ fn is_dead(
 }
 
 // What is wanted, and every rule in turn.
-fn tighten(
-    when: &[u32],
-    only: &[u32],
-    lo: &[u32],
-    hi: &[u32],
-    n: usize,
-    want: Wanted,
-    b: Bounds,
-) -> Bounds
-    requires { ⌜ Columns (now when) (now only) (now lo) (now hi) n ⌝ }
-    ensures { λ r. ⌜ Keeps (good (now (when .entry)) (now (only .entry)) (now (lo .entry)) (now (hi .entry)) n want) b r ⌝ }
+fn tighten(net: &[u32], want: Wanted, b: Bounds) -> Bounds
+    ensures { λ r. ⌜ Keeps (good (now (net .entry)) want) b r ⌝ }
 {
     let mut low = raise(want.ends, want.least, b);
+    let n = size(net);
     let mut i: usize = 0;
     while i < n {
-        low = tighten_by(when[i], only[i], lo[i], hi[i], low);
+        low = tighten_by(rule_at(net, i), low);
         i += 1;
     }
     low
@@ -263,24 +258,15 @@ fn slack(b: Bounds) -> u64
 }
 
 // Until nothing changes.
-fn settle(
-    when: &[u32],
-    only: &[u32],
-    lo: &[u32],
-    hi: &[u32],
-    n: usize,
-    want: Wanted,
-    b: Bounds,
-) -> Bounds
-    requires { ⌜ Columns (now when) (now only) (now lo) (now hi) n ⌝ }
-    ensures { λ r. ⌜ Keeps (good (now (when .entry)) (now (only .entry)) (now (lo .entry)) (now (hi .entry)) n want) b r ⌝ }
+fn settle(net: &[u32], want: Wanted, b: Bounds) -> Bounds
+    ensures { λ r. ⌜ Keeps (good (now (net .entry)) want) b r ⌝ }
 {
-    let mut low = tighten(when, only, lo, hi, n, want, b);
+    let mut low = tighten(net, want, b);
     let mut before = slack(b);
     let mut after = slack(low);
     while after < before {
         before = after;
-        low = tighten(when, only, lo, hi, n, want, low);
+        low = tighten(net, want, low);
         after = slack(low);
     }
     low
@@ -289,41 +275,42 @@ fn settle(
 // ---- crowding
 
 // Ends that a rule forbids beside end k.
-fn forbidden(when: u32, only: u32, hi: u32, k: usize) -> u32
+fn forbidden(rule: Rule, k: usize) -> u32
     requires { ⌜ k < 32 ⌝ }
-    ensures { λ r. ⌜ ((lo : ℕ) → Shuns (obeys 32 (rule when only lo hi)) k r) ⌝ }
+    ensures { λ r. ⌜ Shuns (obeys 32 rule) k r ⌝ }
 {
-    if hi != 0 {
+    if rule.hi != 0 {
         return 0;
     }
-    if !meets(when, only_end(k)) {
+    if !meets(rule.when, words::end_of(k)) {
         return 0;
     }
-    only
+    rule.only
 }
 
 // Ends that no set that passes has beside end k.
-fn rivals(when: &[u32], only: &[u32], hi: &[u32], n: usize, k: usize) -> u32
-    requires { ⌜ (k < 32) × (n ≤ length (now when)) × (n ≤ length (now only)) × (n ≤ length (now hi)) ⌝ }
-    ensures { λ r. ⌜ ((lo : List ℕ) (want : Wanted) → Shuns (good (now (when .entry)) (now (only .entry)) lo (now (hi .entry)) n want) k r) ⌝ }
+fn rivals(net: &[u32], k: usize) -> u32
+    requires { ⌜ k < 32 ⌝ }
+    ensures { λ r. ⌜ ((want : Wanted) → Shuns (good (now (net .entry)) want) k r) ⌝ }
 {
     let mut all: u32 = 0;
+    let n = size(net);
     let mut i: usize = 0;
     while i < n {
-        all = all | forbidden(when[i], only[i], hi[i], k);
+        all = all | forbidden(rule_at(net, i), k);
         i += 1;
     }
     all
 }
 
 // The rivals of each of the m ends.
-fn list_rivals(when: &[u32], only: &[u32], hi: &[u32], n: usize, m: usize, foes: &mut [u32])
-    requires { ⌜ (m ≤ 20) × (m ≤ length (now foes)) × (n ≤ length (now when)) × (n ≤ length (now only)) × (n ≤ length (now hi)) ⌝ }
-    ensures { λ r. ⌜ ((lo : List ℕ) (want : Wanted) → Foes (good (now (when .entry)) (now (only .entry)) lo (now (hi .entry)) n want) m (now (foes .exit))) ⌝ }
+fn list_rivals(net: &[u32], m: usize, foes: &mut [u32])
+    requires { ⌜ (m ≤ 20) × (m ≤ length (now foes)) ⌝ }
+    ensures { λ r. ⌜ ((want : Wanted) → Foes (good (now (net .entry)) want) m (now (foes .exit))) ⌝ }
 {
     let mut k: usize = 0;
     while k < m {
-        foes[k] = rivals(when, only, hi, n, k);
+        foes[k] = rivals(net, k);
         k += 1;
     }
 }
@@ -333,7 +320,7 @@ fn admit(h: Group, foes: u32, k: usize) -> Group
     requires { ⌜ k < 32 ⌝ }
     ensures { λ r. ⌜ ((passing : ℕ → Bool) → Shuns passing k foes → Huddled passing h → Huddled passing r) ⌝ }
 {
-    let end = only_end(k);
+    let end = words::end_of(k);
     if !meets(h.common, end) {
         return h;
     }
@@ -395,198 +382,137 @@ fn thin_by(foes: &[u32], m: usize, when: u32, only: u32, lo: u32, b: Bounds) -> 
 }
 
 // What is asked for, and what a rule asks for besides: other ends, if it is set off by the same.
-fn plus(all: Wanted, w: u32, when: u32, only: u32, lo: u32) -> Wanted
-    ensures { λ r. ⌜ ((passing : ℕ → Bool) → Asks passing when only lo → Asks passing w (all .ends) (all .least) → Asks passing w (r .ends) (r .least)) ⌝ }
+fn plus(all: Wanted, w: u32, rule: Rule) -> Wanted
+    ensures { λ r. ⌜ ((passing : ℕ → Bool) → Asks passing (rule .when) (rule .only) (rule .lo) → Asks passing w (all .ends) (all .least) → Asks passing w (r .ends) (r .least)) ⌝ }
 {
-    if when != w || lo == 0 {
+    if rule.when != w || rule.lo == 0 {
         return all;
     }
-    if meets(all.ends, only) {
+    if meets(all.ends, rule.only) {
         return all;
     }
     // no more than 20 ends are to be had
-    if lo > 20 {
+    if rule.lo > 20 {
         return all;
     }
     if all.least > 20 {
         return all;
     }
     Wanted {
-        ends: all.ends | only,
-        least: all.least + lo,
+        ends: all.ends | rule.only,
+        least: all.least + rule.lo,
     }
 }
 
 // What the rules that are set off by these ends ask for together.
-fn demand(when: &[u32], only: &[u32], lo: &[u32], n: usize, w: u32) -> Wanted
-    requires { ⌜ (n ≤ length (now when)) × (n ≤ length (now only)) × (n ≤ length (now lo)) ⌝ }
-    ensures { λ r. ⌜ ((hi : List ℕ) (want : Wanted) → Asks (good (now (when .entry)) (now (only .entry)) (now (lo .entry)) hi n want) w (r .ends) (r .least)) ⌝ }
+fn demand(net: &[u32], w: u32) -> Wanted
+    ensures { λ r. ⌜ ((want : Wanted) → Asks (good (now (net .entry)) want) w (r .ends) (r .least)) ⌝ }
 {
     let mut all = Wanted { ends: 0, least: 0 };
+    let n = size(net);
     let mut i: usize = 0;
     while i < n {
-        all = plus(all, w, when[i], only[i], lo[i]);
+        all = plus(all, w, rule_at(net, i));
         i += 1;
     }
     all
 }
 
 // Rule i alone, and with all that are set off by the same ends.
-fn thin_at(
-    when: &[u32],
-    only: &[u32],
-    lo: &[u32],
-    n: usize,
-    foes: &[u32],
-    m: usize,
-    i: usize,
-    b: Bounds,
-) -> Bounds
-    requires { ⌜ ((m ≤ 20) × (m ≤ length (now foes)) × (i < n)) × (n ≤ length (now when)) × (n ≤ length (now only)) × (n ≤ length (now lo)) ⌝ }
-    ensures { λ r. ⌜ ((hi : List ℕ) (want : Wanted) → Foes (good (now (when .entry)) (now (only .entry)) (now (lo .entry)) hi n want) m (now (foes .entry)) → Keeps (good (now (when .entry)) (now (only .entry)) (now (lo .entry)) hi n want) b r) ⌝ }
+fn thin_at(net: &[u32], foes: &[u32], m: usize, i: usize, b: Bounds) -> Bounds
+    requires { ⌜ (m ≤ 20) × (m ≤ length (now foes)) × (i < size (now net)) ⌝ }
+    ensures { λ r. ⌜ ((want : Wanted) → Foes (good (now (net .entry)) want) m (now (foes .entry)) → Keeps (good (now (net .entry)) want) b r) ⌝ }
 {
-    if lo[i] == 0 {
+    let rule = rule_at(net, i);
+    if rule.lo == 0 {
         return b;
     }
-    let all = demand(when, only, lo, n, when[i]);
-    let low = thin_by(foes, m, when[i], all.ends, all.least, b);
-    thin_by(foes, m, when[i], only[i], lo[i], low)
+    let all = demand(net, rule.when);
+    let low = thin_by(foes, m, rule.when, all.ends, all.least, b);
+    thin_by(foes, m, rule.when, rule.only, rule.lo, low)
 }
 
 // Every rule in turn.
-fn thin(
-    when: &[u32],
-    only: &[u32],
-    lo: &[u32],
-    hi: &[u32],
-    n: usize,
-    want: Wanted,
-    m: usize,
-    b: Bounds,
-) -> Bounds
-    requires { ⌜ (m ≤ 20) × Columns (now when) (now only) (now lo) (now hi) n ⌝ }
-    ensures { λ r. ⌜ Keeps (good (now (when .entry)) (now (only .entry)) (now (lo .entry)) (now (hi .entry)) n want) b r ⌝ }
+fn thin(net: &[u32], want: Wanted, m: usize, b: Bounds) -> Bounds
+    requires { ⌜ m ≤ 20 ⌝ }
+    ensures { λ r. ⌜ Keeps (good (now (net .entry)) want) b r ⌝ }
 {
     let mut foes = [0u32; 20];
-    list_rivals(when, only, hi, n, m, &mut foes);
+    list_rivals(net, m, &mut foes);
     let mut low = b;
+    let n = size(net);
     let mut i: usize = 0;
     while i < n {
-        low = thin_at(when, only, lo, n, &foes, m, i, low);
+        low = thin_at(net, &foes, m, i, low);
         i += 1;
     }
     low
 }
 
 // All that the rules can see without trying an end.
-fn press(
-    when: &[u32],
-    only: &[u32],
-    lo: &[u32],
-    hi: &[u32],
-    n: usize,
-    want: Wanted,
-    m: usize,
-    b: Bounds,
-) -> Bounds
-    requires { ⌜ (m ≤ 20) × Columns (now when) (now only) (now lo) (now hi) n ⌝ }
-    ensures { λ r. ⌜ Keeps (good (now (when .entry)) (now (only .entry)) (now (lo .entry)) (now (hi .entry)) n want) b r ⌝ }
+fn press(net: &[u32], want: Wanted, m: usize, b: Bounds) -> Bounds
+    requires { ⌜ m ≤ 20 ⌝ }
+    ensures { λ r. ⌜ Keeps (good (now (net .entry)) want) b r ⌝ }
 {
-    let low = settle(when, only, lo, hi, n, want, b);
-    thin(when, only, lo, hi, n, want, m, low)
+    let low = settle(net, want, b);
+    thin(net, want, m, low)
 }
 
 // ---- trying an end
 
 // No set between the bounds passes, for all that the rules in turn can see.
-fn is_hopeless(
-    when: &[u32],
-    only: &[u32],
-    lo: &[u32],
-    hi: &[u32],
-    n: usize,
-    want: Wanted,
-    b: Bounds,
-) -> bool
-    requires { ⌜ Columns (now when) (now only) (now lo) (now hi) n ⌝ }
-    ensures { λ r. ⌜ (r ≡ true → NoneIn (good (now (when .entry)) (now (only .entry)) (now (lo .entry)) (now (hi .entry)) n want) b) ⌝ }
+fn is_hopeless(net: &[u32], want: Wanted, b: Bounds) -> bool
+    ensures { λ r. ⌜ (r ≡ true → NoneIn (good (now (net .entry)) want) b) ⌝ }
 {
-    let low = settle(when, only, lo, hi, n, want, b);
-    is_dead(when, only, lo, hi, n, want, low)
+    let low = settle(net, want, b);
+    is_dead(net, want, low)
 }
 
 // Strikes end k, if all is hopeless with it, and takes it, if all is hopeless without it.
-fn probe_end(
-    when: &[u32],
-    only: &[u32],
-    lo: &[u32],
-    hi: &[u32],
-    n: usize,
-    want: Wanted,
-    k: usize,
-    b: Bounds,
-) -> Bounds
-    requires { ⌜ (k < 32) × Columns (now when) (now only) (now lo) (now hi) n ⌝ }
-    ensures { λ r. ⌜ Keeps (good (now (when .entry)) (now (only .entry)) (now (lo .entry)) (now (hi .entry)) n want) b r ⌝ }
+fn probe_end(net: &[u32], want: Wanted, k: usize, b: Bounds) -> Bounds
+    requires { ⌜ k < 32 ⌝ }
+    ensures { λ r. ⌜ Keeps (good (now (net .entry)) want) b r ⌝ }
 {
-    let end = only_end(k);
+    let end = words::end_of(k);
     if !meets(without(b.may, b.must), end) {
         return b;
     }
-    if is_hopeless(when, only, lo, hi, n, want, add(end, b)) {
+    if is_hopeless(net, want, add(end, b)) {
         return strike(end, b);
     }
-    if is_hopeless(when, only, lo, hi, n, want, strike(end, b)) {
+    if is_hopeless(net, want, strike(end, b)) {
         return add(end, b);
     }
     b
 }
 
 // Each of the m ends in turn.
-fn probe(
-    when: &[u32],
-    only: &[u32],
-    lo: &[u32],
-    hi: &[u32],
-    n: usize,
-    want: Wanted,
-    m: usize,
-    b: Bounds,
-) -> Bounds
-    requires { ⌜ (m ≤ 20) × Columns (now when) (now only) (now lo) (now hi) n ⌝ }
-    ensures { λ r. ⌜ Keeps (good (now (when .entry)) (now (only .entry)) (now (lo .entry)) (now (hi .entry)) n want) b r ⌝ }
+fn probe(net: &[u32], want: Wanted, m: usize, b: Bounds) -> Bounds
+    requires { ⌜ m ≤ 20 ⌝ }
+    ensures { λ r. ⌜ Keeps (good (now (net .entry)) want) b r ⌝ }
 {
     let mut low = b;
     let mut k: usize = 0;
     while k < m {
-        low = probe_end(when, only, lo, hi, n, want, k, low);
+        low = probe_end(net, want, k, low);
         k += 1;
     }
     low
 }
 
 // The rules and the ends in turn, until nothing changes.
-fn narrow(
-    when: &[u32],
-    only: &[u32],
-    lo: &[u32],
-    hi: &[u32],
-    n: usize,
-    want: Wanted,
-    m: usize,
-    b: Bounds,
-) -> Bounds
-    requires { ⌜ (m ≤ 20) × Columns (now when) (now only) (now lo) (now hi) n ⌝ }
-    ensures { λ r. ⌜ Keeps (good (now (when .entry)) (now (only .entry)) (now (lo .entry)) (now (hi .entry)) n want) b r ⌝ }
+fn narrow(net: &[u32], want: Wanted, m: usize, b: Bounds) -> Bounds
+    requires { ⌜ m ≤ 20 ⌝ }
+    ensures { λ r. ⌜ Keeps (good (now (net .entry)) want) b r ⌝ }
 {
-    let mut low = press(when, only, lo, hi, n, want, m, b);
+    let mut low = press(net, want, m, b);
     let mut before = slack(low);
-    low = probe(when, only, lo, hi, n, want, m, low);
+    low = probe(net, want, m, low);
     let mut after = slack(low);
     while after < before {
-        low = press(when, only, lo, hi, n, want, m, low);
+        low = press(net, want, m, low);
         before = after;
-        low = probe(when, only, lo, hi, n, want, m, low);
+        low = probe(net, want, m, low);
         after = slack(low);
     }
     low
@@ -625,11 +551,11 @@ fn lacked(ends: u32, least: u32, b: Bounds) -> u32 {
 }
 
 // The open ends of which a rule needs more, if it applies to all sets between the bounds.
-fn lacking(when: u32, only: u32, lo: u32, b: Bounds) -> u32 {
-    if !meets(b.must, when) {
+fn lacking(rule: Rule, b: Bounds) -> u32 {
+    if !meets(b.must, rule.when) {
         return 0;
     }
-    lacked(only, lo, b)
+    lacked(rule.only, rule.lo, b)
 }
 
 // The smaller of two sets that has an end.
@@ -647,112 +573,88 @@ fn smaller(c: u32, d: u32) -> u32 {
 }
 
 // The end to try next: the first of the fewest that what is wanted or a rule needs more of; 32 if nothing lacks any. A hint: any end would do.
-fn next_end(when: &[u32], only: &[u32], lo: &[u32], n: usize, want: Wanted, b: Bounds) -> u32
-    requires { ⌜ (n ≤ length (now when)) × (n ≤ length (now only)) × (n ≤ length (now lo)) ⌝ }
-{
+fn next_end(net: &[u32], want: Wanted, b: Bounds) -> u32 {
     let mut few = lacked(want.ends, want.least, b);
+    let n = size(net);
     let mut i: usize = 0;
     while i < n {
-        few = smaller(few, lacking(when[i], only[i], lo[i], b));
+        few = smaller(few, lacking(rule_at(net, i), b));
         i += 1;
     }
     u32::trailing_zeros(few)
 }
 
 // The set with these ends too, if it passes.
-fn joined(
-    when: &[u32],
-    only: &[u32],
-    lo: &[u32],
-    hi: &[u32],
-    n: usize,
-    want: Wanted,
-    c: u32,
-    ends: u32,
-) -> u32
-    requires { ⌜ Columns (now when) (now only) (now lo) (now hi) n ⌝ }
-{
-    if passes(when, only, lo, hi, n, want, c | ends) {
+fn joined(net: &[u32], want: Wanted, c: u32, ends: u32) -> u32 {
+    if passes(net, want, c | ends) {
         return c | ends;
     }
     c
 }
 
 // A set between the bounds with as many ends as join it one by one, the first of them first. A hint: the search comes to it sooner.
-fn widen(
-    when: &[u32],
-    only: &[u32],
-    lo: &[u32],
-    hi: &[u32],
-    n: usize,
-    want: Wanted,
-    m: usize,
-    b: Bounds,
-) -> u32
-    requires { ⌜ (m ≤ 20) × Columns (now when) (now only) (now lo) (now hi) n ⌝ }
+fn widen(net: &[u32], want: Wanted, m: usize, b: Bounds) -> u32
+    requires { ⌜ m ≤ 20 ⌝ }
 {
     let mut c = b.must;
     let mut k: usize = 0;
     while k < m {
-        c = joined(when, only, lo, hi, n, want, c, b.may & only_end(k));
+        c = joined(net, want, c, b.may & words::end_of(k));
         k += 1;
     }
     c
 }
 
 // Looks for some set that passes between the bounds, trying at most so many ends. Only 'nothing' is sure.
-fn scout(
-    when: &[u32],
-    only: &[u32],
-    lo: &[u32],
-    hi: &[u32],
-    n: usize,
-    want: Wanted,
-    m: usize,
-    left: usize,
-    b: Bounds,
-) -> Visit
-    requires { ⌜ ((m ≤ 20) × (left ≤ 20)) × Columns (now when) (now only) (now lo) (now hi) n ⌝ }
-    ensures { λ r. ⌜ Scouted (good (now (when .entry)) (now (only .entry)) (now (lo .entry)) (now (hi .entry)) n want) left b r ⌝ }
+fn scout(net: &[u32], want: Wanted, m: usize, left: usize, b: Bounds) -> Visit
+    requires { ⌜ (m ≤ 20) × (left ≤ 20) ⌝ }
+    ensures { λ r. ⌜ Scouted (good (now (net .entry)) want) left b r ⌝ }
 {
-    let low = narrow(when, only, lo, hi, n, want, m, b);
-    if is_dead(when, only, lo, hi, n, want, low) {
+    let low = narrow(net, want, m, b);
+    if is_dead(net, want, low) {
         return Visit::Nothing(1);
     }
-    if passes(when, only, lo, hi, n, want, low.may) {
+    if passes(net, want, low.may) {
         return Visit::Choice(low.may, 1);
     }
-    let k = next_end(when, only, lo, n, want, low);
+    let k = next_end(net, want, low);
     if left == 0 || k >= 32 {
-        return Visit::Choice(widen(when, only, lo, hi, n, want, m, low), 1);
+        return Visit::Choice(widen(net, want, m, low), 1);
     }
-    let end = only_end(k as usize);
-    let f = scout(when, only, lo, hi, n, want, m, left - 1, add(end, low));
+    let end = words::end_of(k as usize);
+    let f = scout(net, want, m, left - 1, add(end, low));
     if let Visit::Choice(c, more) = f {
         return Visit::Choice(c, more + 1);
     }
     let tried = states_of(f) + 1;
-    let v = scout(when, only, lo, hi, n, want, m, left - 1, strike(end, low));
+    let v = scout(net, want, m, left - 1, strike(end, low));
     after(tried, v)
 }
 
+// Whether a set in view shows all that a survey could find: it passes, lies between the bounds, and has the end, if that is open.
+fn in_view(net: &[u32], want: Wanted, end: u32, hint: u32, b: Bounds) -> bool {
+    if meets(without(b.may, hint), end) {
+        return false;
+    }
+    if without(b.must, hint) != 0 || without(hint, b.may) != 0 {
+        return false;
+    }
+    passes(net, want, hint)
+}
+
 // What is known before an end is tried: it is struck where no set that passes has it. A set in view that has it spares the scout.
-fn survey(
-    when: &[u32],
-    only: &[u32],
-    lo: &[u32],
-    hi: &[u32],
-    n: usize,
-    want: Wanted,
-    m: usize,
-    end: u32,
-    hint: u32,
-    b: Bounds,
-) -> View
-    requires { ⌜ (m ≤ 20) × Columns (now when) (now only) (now lo) (now hi) n ⌝ }
-    ensures { λ r. ⌜ Surveyed (good (now (when .entry)) (now (only .entry)) (now (lo .entry)) (now (hi .entry)) n want) end b r ⌝ }
+fn survey(net: &[u32], want: Wanted, m: usize, end: u32, hint: u32, b: Bounds) -> View
+    requires { ⌜ m ≤ 20 ⌝ }
+    ensures { λ r. ⌜ Surveyed (good (now (net .entry)) want) end b r ⌝ }
 {
-    let low = narrow(when, only, lo, hi, n, want, m, b);
+    if in_view(net, want, end, hint, b) {
+        return View {
+            low: b,
+            hint: hint,
+            states: 1,
+        };
+    }
+    let low = narrow(net, want, m, b);
     if !meets(without(low.may, hint), end) {
         return View {
             low: low,
@@ -760,7 +662,7 @@ fn survey(
             states: 1,
         };
     }
-    match scout(when, only, lo, hi, n, want, m, m, add(end, low)) {
+    match scout(net, want, m, m, add(end, low)) {
         Visit::Choice(c, more) => View {
             low: low,
             hint: c,
@@ -778,11 +680,10 @@ fn survey(
 
 // One end less is open: taken, if `end` is its weight, and left, if that is 0.
 fn step(p: Place, end: u32) -> Place
-    requires { ⌜ (1 ≤ p .left) × ((p .bit ≤ 524288) × ((p .taken < p .bit) × (end ≤ p .bit))) ⌝ }
+    requires { ⌜ (p .bit ≤ 524288) × (p .taken < p .bit) × (end ≤ p .bit) ⌝ }
     ensures { λ r. ⌜ r ≡ stepped p end ⌝ }
 {
     Place {
-        left: p.left - 1,
         bit: p.bit * 2,
         taken: p.taken + end,
     }
@@ -799,118 +700,68 @@ fn leaf(passes: bool, taken: u32, states: usize) -> Visit
 }
 
 // The first set that passes among those that have `p.taken` before the open ends, if those that pass lie between the bounds.
-fn search(
-    when: &[u32],
-    only: &[u32],
-    lo: &[u32],
-    hi: &[u32],
-    n: usize,
-    want: Wanted,
-    m: usize,
-    p: Place,
-    b: Bounds,
-    hint: u32,
-) -> Visit
-    requires { ⌜ ((m ≤ 20) × Placed m p) × Columns (now when) (now only) (now lo) (now hi) n ⌝ }
-    ensures { λ r. ⌜ Visited (good (now (when .entry)) (now (only .entry)) (now (lo .entry)) (now (hi .entry)) n want) m p b r ⌝ }
+fn search(net: &[u32], want: Wanted, m: usize, left: usize, p: Place, b: Bounds, hint: u32) -> Visit
+    requires { ⌜ (m ≤ 20) × Placed m left p ⌝ }
+    ensures { λ r. ⌜ Visited (good (now (net .entry)) want) m left p b r ⌝ }
 {
-    let view = survey(when, only, lo, hi, n, want, m, p.bit, hint, b);
+    let view = survey(net, want, m, p.bit, hint, b);
     let low = view.low;
-    if is_dead(when, only, lo, hi, n, want, low) {
+    if is_dead(net, want, low) {
         return Visit::Nothing(view.states);
     }
-    if p.left == 0 {
-        let fine = passes(when, only, lo, hi, n, want, p.taken);
+    if left == 0 {
+        let fine = passes(net, want, p.taken);
         return leaf(fine, p.taken, view.states);
     }
+    let fewer = left - 1;
+    let mut tried = view.states;
+    if meets(low.may, p.bit) {
+        let with = add(p.bit, low);
+        let f = search(net, want, m, fewer, step(p, p.bit), with, view.hint);
+        if let Visit::Choice(c, more) = f {
+            return Visit::Choice(c, more + tried);
+        }
+        tried = states_of(f) + tried;
+        if meets(low.must, p.bit) {
+            return Visit::Nothing(tried);
+        }
+    }
     let out = strike(p.bit, low);
-    if !meets(low.may, p.bit) {
-        let rest = search(when, only, lo, hi, n, want, m, step(p, 0), out, view.hint);
-        return after(view.states, rest);
-    }
-    let with = add(p.bit, low);
-    let f = search(
-        when,
-        only,
-        lo,
-        hi,
-        n,
-        want,
-        m,
-        step(p, p.bit),
-        with,
-        view.hint,
-    );
-    if let Visit::Choice(c, more) = f {
-        return Visit::Choice(c, more + view.states);
-    }
-    let tried = states_of(f) + view.states;
-    if meets(low.must, p.bit) {
-        return Visit::Nothing(tried);
-    }
-    let v = search(when, only, lo, hi, n, want, m, step(p, 0), out, view.hint);
+    let v = search(net, want, m, fewer, step(p, 0), out, view.hint);
     after(tried, v)
 }
 
 // The search over all sets of m ends.
-fn search_all(
-    when: &[u32],
-    only: &[u32],
-    lo: &[u32],
-    hi: &[u32],
-    n: usize,
-    want: Wanted,
-    m: usize,
-) -> Visit
-    requires { ⌜ (m ≤ 20) × Columns (now when) (now only) (now lo) (now hi) n ⌝ }
-    ensures { λ r. ⌜ (said r ≡ look (good (now (when .entry)) (now (only .entry)) (now (lo .entry)) (now (hi .entry)) n want) m 0 0) × ((1 ≤ seen r) × (seen r < 2 ^ (m + 22))) ⌝ }
+fn search_all(net: &[u32], want: Wanted, m: usize) -> Visit
+    requires { ⌜ m ≤ 20 ⌝ }
+    ensures { λ r. ⌜ (said r ≡ look (good (now (net .entry)) want) m 0 0) × ((1 ≤ seen r) × (seen r < 2 ^ (m + 22))) ⌝ }
 {
-    let p = Place {
-        left: m,
-        bit: 1,
-        taken: 0,
-    };
+    let p = Place { bit: 1, taken: 0 };
     let b = Bounds {
         must: 0,
-        may: only_end(m) - 1,
+        may: words::end_of(m) - 1,
     };
-    match scout(when, only, lo, hi, n, want, m, m, b) {
-        Visit::Choice(c, more) => after(more, search(when, only, lo, hi, n, want, m, p, b, c)),
+    match scout(net, want, m, m, b) {
+        Visit::Choice(c, more) => after(more, search(net, want, m, m, p, b, c)),
         Visit::Nothing(more) => Visit::Nothing(more),
     }
 }
 
 // The first set of m ends that passes the net and holds what is wanted.
-pub fn first(
-    when: &[u32],
-    only: &[u32],
-    lo: &[u32],
-    hi: &[u32],
-    n: usize,
-    want: Wanted,
-    m: usize,
-) -> Found
-    requires { ⌜ (m ≤ 20) × Columns (now when) (now only) (now lo) (now hi) n ⌝ }
-    ensures { λ r. ⌜ Answers (netOf (now (when .entry)) (now (only .entry)) (now (lo .entry)) (now (hi .entry)) n want) m r ⌝ }
+pub fn first(net: &[u32], want: Wanted, m: usize) -> Found
+    requires { ⌜ m ≤ 20 ⌝ }
+    ensures { λ r. ⌜ Answers (netOf (now (net .entry)) want) m r ⌝ }
 {
-    match search_all(when, only, lo, hi, n, want, m) {
+    match search_all(net, want, m) {
         Visit::Choice(c, _) => Found::Choice(c),
         Visit::Nothing(_) => Found::Nothing,
     }
 }
 
 // How many states that search visits: what a test can hold down.
-pub fn states(
-    when: &[u32],
-    only: &[u32],
-    lo: &[u32],
-    hi: &[u32],
-    n: usize,
-    want: Wanted,
-    m: usize,
-) -> usize
-    requires { ⌜ (m ≤ 20) × Columns (now when) (now only) (now lo) (now hi) n ⌝ }
+pub fn states(net: &[u32], want: Wanted, m: usize) -> usize
+    requires { ⌜ m ≤ 20 ⌝ }
     ensures { λ r. ⌜ (1 ≤ r) × (r < 2 ^ (m + 22)) ⌝ }
 {
-    states_of(search_all(when, only, lo, hi, n, want, m))
+    states_of(search_all(net, want, m))
 }

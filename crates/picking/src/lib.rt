@@ -41,13 +41,13 @@ fn prepare(
     node: u8,
     net: &mut [u32],
 ) -> Question
-    requires { ⌜ (tableRead (now t) ≡ good table) × Pickable (now t) offers (now ends) n × (nodes (now t) ≤ length (now runs)) × (nodes (now t) ≤ length (now stock)) × (1024 ≤ length (now net)) ⌝ }
-    ensures { λ r. ⌜ (r .rules ≤ 256) × ((d : Board) (ts : List Offer) → Seated (now (t .entry)) d (rowsOf offers) ts (now (ends .entry)) n → Told (now (t .entry)) (d .current) (now (runs .entry)) (now (stock .entry)) → ((i : ℕ) → length (d .current .stock i) ≤ upper (now (t .entry)) i) → (c : ℕ) → holds (now (net .exit)) (r .rules) n c && leb (r .want .least) (held n c (r .want .ends)) ≡ wanted d node c) ⌝ }
+    requires { ⌜ (tableRead (now t) ≡ good table) × Pickable (now t) offers (now ends) n × (nodes (now t) ≤ length (now runs)) × (nodes (now t) ≤ length (now stock)) × (784 ≤ length (now net)) ⌝ }
+    ensures { λ r. ⌜ (r .rules ≤ 196) × ((links : List ℕ) (d : Board) (ts : List Offer) → Seated (now (t .entry)) d (rowsOf offers links) ts (now (ends .entry)) n → Told (now (t .entry)) (d .current) (now (runs .entry)) (now (stock .entry)) → ((i : ℕ) → length (d .current .stock i) ≤ upper (now (t .entry)) i) → (c : ℕ) → holds (now (net .exit)) (r .rules) n c && leb (r .want .least) (held n c (r .want .ends)) ≡ wanted d node c) ⌝ }
 {
     let last = offers.last;
-    let mut edge = [0u8; 20];
-    let mut target = [0u8; 20];
-    let mut home = [0u8; 20];
+    let mut edge = [0u8; ends::MOST_ENDS];
+    let mut target = [0u8; ends::MOST_ENDS];
+    let mut home = [0u8; ends::MOST_ENDS];
     seating::columns(t, table, &last, ends, n, &mut edge, &mut target, &mut home);
     let from = offers.node;
     let parents = offers.parents;
@@ -89,9 +89,9 @@ fn choose(
     node: u8,
 ) -> Found
     requires { ⌜ (tableRead (now t) ≡ good table) × Pickable (now t) offers (now ends) n × (nodes (now t) ≤ length (now runs)) × (nodes (now t) ≤ length (now stock)) ⌝ }
-    ensures { λ r. ⌜ ((d : Board) (ts : List Offer) → Seated (now (t .entry)) d (rowsOf offers) ts (now (ends .entry)) n → Told (now (t .entry)) (d .current) (now (runs .entry)) (now (stock .entry)) → ((i : ℕ) → length (d .current .stock i) ≤ upper (now (t .entry)) i) → Answered (wanted d node) (howMany d) r) ⌝ }
+    ensures { λ r. ⌜ ((links : List ℕ) (d : Board) (ts : List Offer) → Seated (now (t .entry)) d (rowsOf offers links) ts (now (ends .entry)) n → Told (now (t .entry)) (d .current) (now (runs .entry)) (now (stock .entry)) → ((i : ℕ) → length (d .current .stock i) ≤ upper (now (t .entry)) i) → Answered (wanted d node) (howMany d) r) ⌝ }
 {
-    let mut net = [0u32; 1024];
+    let mut net = [0u32; rules::CELLS];
     let asked = prepare(t, table, offers, ends, n, runs, stock, node, &mut net);
     rules::first(&net, asked.rules, asked.want, n)
 }
@@ -110,7 +110,7 @@ pub fn states(
     requires { ⌜ (tableRead (now t) ≡ good table) × Pickable (now t) offers (now ends) n × (nodes (now t) ≤ length (now runs)) × (nodes (now t) ≤ length (now stock)) ⌝ }
     ensures { λ r. ⌜ (1 ≤ r) × (r < 2 ^ (n + 22)) ⌝ }
 {
-    let mut net = [0u32; 1024];
+    let mut net = [0u32; rules::CELLS];
     let asked = prepare(t, table, offers, ends, n, runs, stock, node, &mut net);
     rules::states(&net, asked.rules, asked.want, n)
 }
@@ -139,7 +139,7 @@ pub fn pick(
     out: &mut [u8],
 ) -> u64
     requires { ⌜ (tableRead (now t) ≡ good table) × Pickable (now t) offers (now ends) n × (nodes (now t) ≤ length (now runs)) × (nodes (now t) ≤ length (now stock)) ⌝ }
-    ensures { λ r. ⌜ ((d : Board) (ts : List Offer) → Seated (now (t .entry)) d (rowsOf offers) ts (now (ends .entry)) n → Told (now (t .entry)) (d .current) (now (runs .entry)) (now (stock .entry)) → ((i : ℕ) → length (d .current .stock i) ≤ upper (now (t .entry)) i) → Leaves (PickOn d node) r (now (out .entry)) (now (out .exit))) ⌝ }
+    ensures { λ r. ⌜ ((links : List ℕ) (d : Board) (ts : List Offer) → Seated (now (t .entry)) d (rowsOf offers links) ts (now (ends .entry)) n → Told (now (t .entry)) (d .current) (now (runs .entry)) (now (stock .entry)) → ((i : ℕ) → length (d .current .stock i) ≤ upper (now (t .entry)) i) → Leaves (PickOn d node) r (now (out .entry)) (now (out .exit))) ⌝ }
 {
     let found = choose(t, table, offers, ends, n, runs, stock, node);
     conclude(found, n, node, out)

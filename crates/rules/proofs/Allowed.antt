@@ -6,21 +6,18 @@ use Prim.Native.Nat.{ℕ, _+_, _-_, _≤_, _<_}
 use native.Mathlib.Omega.{arith}
 use lib.Dec.{leb, ltb, eqb}
 use borrow.Author.Tests.{eq-eqb, eqb-true, ltb-true, lt-ltb, leb-true, le-leb}
-use Rattle.paper.specs.Lists.{at, has, below, all, keep, within, _⇒_}
+use Rattle.paper.specs.Lists.{at, below, all, keep, within, _⇒_}
 use Rattle.paper.specs.Limits.{limits}
 use Rattle.paper.specs.Table.{nodes, edges, kind, owner, lower, upper, into, inputs, isAction, isInput, isFork, isBuffer, isOutgoing, target as targetOfEdge}
 use Rattle.paper.proofs.Bools.{and-true, and-both, iff, if-true}
 use Rattle.paper.proofs.Lists.{all-below, below-all}
 use Rattle.paper.proofs.Members.{all-in, in-all, in-keep-below, keep-in, below-in}
 use Rattle.paper.proofs.Tables.{GoodTable}
+use Rattle.seating.proofs.Rules.{if-so}
 use Rattle.seating.specs.Seating.{kept, passed, seats, served, actionFits, fits, allowed}
 use Rattle.rules.specs.Rules.{Roomy, clashKept, forkKept, edgeKept, idleKept, pinKept, storeKept, nodeKept}
 
 -- if, then: made and used
-if-then : (a b : Bool) → (a ≡ true → b ≡ true) → a ⇒ b ≡ true
-if-then true b h = h refl
-if-then false b h = refl
-
 -- a store has room for x more
 room-for : (x stock upper : ℕ) → stock ≤ upper → leb (stock + x) upper ≡ leb x (upper - stock)
 room-for x stock upper l =
@@ -46,11 +43,11 @@ module _ (t node parents makers ends : List ℕ) (rows n c : ℕ) where
       below-all _ (nodes t)
       (λ i l.
       split (isFork (kind t i)) (all (λ z. eqb (at node z) i ⇒ kept node parents makers ends rows n c z) (below rows))
-      ∙ if-then (isFork (kind t i)) _
+      ∙ if-so (isFork (kind t i)) _
       (λ f.
       below-all (λ z. eqb (at node z) i ⇒ kept node parents makers ends rows n c z) rows
       (λ z g.
-      if-then (eqb (at node z) i) _
+      if-so (eqb (at node z) i) _
       (λ e.
       let q = eqb-true (at node z) i e in
       if-true _ _ (all-below _ rows h z g) (and-both _ _ (lt-ltb (at node z) (nodes t) (omega arith)) (ap (λ (j : ℕ). isFork (kind t j)) q ∙ f))))))
@@ -60,7 +57,7 @@ module _ (t node parents makers ends : List ℕ) (rows n c : ℕ) where
   fork-back h =
       below-all _ rows
       (λ z g.
-      if-then (ltb (at node z) (nodes t) && isFork (kind t (at node z))) _
+      if-so (ltb (at node z) (nodes t) && isFork (kind t (at node z))) _
       (λ e.
       let q = and-true (ltb (at node z) (nodes t)) _ e in
       let p = if-true (isFork (kind t (at node z))) _ (sym (split (isFork (kind t (at node z))) _) ∙ all-below _ (nodes t) h (at node z) (ltb-true (at node z) (nodes t) (q .0))) (q .1) in
@@ -138,8 +135,8 @@ module _ (t edge target home runs stock : List ℕ) (n c : ℕ) (g : GoodTable t
       below-all _ (nodes t)
       (λ i l.
       and-both (starts i ⇒ actionFits t edge target home runs stock n c i) (stores i ⇒ leb (at stock i + seats target n c i) (upper t i))
-      (if-then (starts i) _ (action-there he hn i l))
-      (if-then (stores i) _
+      (if-so (starts i) _ (action-there he hn i l))
+      (if-so (stores i) _
       (λ s.
       room-for (seats target n c i) (at stock i) (upper t i) (room i l s)
       ∙ if-true (stores i) _ (node-facts i (all-below _ (nodes t) hn i l) .2) s)))
@@ -151,7 +148,7 @@ module _ (t edge target home runs stock : List ℕ) (n c : ℕ) (g : GoodTable t
       below-all _ (edges t)
       (λ e l.
       let i = targetOfEdge t e in
-      if-then (starts i) _
+      if-so (starts i) _
       (λ s.
       let f = fit-facts i (all-below _ (nodes t) h i (g .edge e l .target-fits)) .0 s in
       all-in (λ e. eqb (seats edge n c e) 1) (action-facts i f .1) (keep-in (λ j. eqb (targetOfEdge t j) i) (below-in (edges t) l) (eq-eqb i i refl))))
@@ -169,9 +166,9 @@ module _ (t edge target home runs stock : List ℕ) (n c : ℕ) (g : GoodTable t
       (λ i l.
       let f = fit-facts i (all-below _ (nodes t) h i l) in
       and-both (idleKept t target home runs stock n i c) (pinKept t target home runs stock n i c && storeKept t target home runs stock n i c)
-      (if-then (starts i) _ (λ s. action-facts i (f .0 s) .0))
+      (if-so (starts i) _ (λ s. action-facts i (f .0 s) .0))
       (and-both (pinKept t target home runs stock n i c) (storeKept t target home runs stock n i c)
-      (if-then (isInput (kind t i) && served target home n c (owner t i)) _
+      (if-so (isInput (kind t i) && served target home n c (owner t i)) _
       (λ s.
       let p = owner t i in
       let q = and-true (isInput (kind t i)) _ s in
@@ -179,7 +176,7 @@ module _ (t edge target home runs stock : List ℕ) (n c : ℕ) (g : GoodTable t
       let a = fit-facts p (all-below _ (nodes t) h p (o .0)) .0 (and-both _ _ (o .1) (q .1)) in
       all-in (λ p. within (lower t p) (upper t p) (seats target n c p)) (action-facts p a .2)
       (keep-in (λ j. isInput (kind t j) && eqb (owner t j) p) (below-in (nodes t) l) (and-both _ _ (q .0) (eq-eqb p p refl)))))
-      (if-then (stores i) _ (λ s. sym (room-for (seats target n c i) (at stock i) (upper t i) (room i l s)) ∙ f .1 s))))
+      (if-so (stores i) _ (λ s. sym (room-for (seats target n c i) (at stock i) (upper t i) (room i l s)) ∙ f .1 s))))
 
 -- ---- all three
 module _ (t node parents makers foes ends edge target home runs stock : List ℕ) (rows n c : ℕ) (g : GoodTable t limits) (room : Roomy t stock) where

@@ -2,23 +2,24 @@
 use mathlib.Core.Path.{_≡_, refl, sym, ap, ap₂, _∙_}
 use mathlib.Core.Bool.{Bool, true, false, _&&_, and-true, and-comm, and-assoc}
 use mathlib.Core.List.{List, [], _∷_}
-use Prim.Native.Nat.{ℕ, _+_, _≤_, _<_}
+use Prim.Native.Nat.{ℕ, _+_, _*_, _≤_, _<_}
 use native.Mathlib.Omega.{arith}
 use lib.Dec.{leb}
-use lib.ListN.{length, set, take, drop, length-set}
-use lib.Seq.{getD-set-same, getD-set-other, getD-take, getD-drop}
+use lib.ListN.{length, set, take, length-set}
+use lib.Seq.{getD-set-same, getD-set-other, getD-take, length-take-le}
 use Rattle.paper.specs.Lists.{at, has, below, all, each}
 use Rattle.paper.proofs.Bools.{and-never}
-use Rattle.paper.proofs.Bits.{has-zero}
 use Rattle.paper.proofs.Lists.{below-more}
 use Rattle.paper.proofs.Counts.{all-append, any-below-none}
-use Rattle.net.specs.Net.{Rule, Net, rule, meets, held, inBoth, obeys, passes, ruleAt, netOf, Answers}
+use Rattle.paper.proofs.Digits.{has-zero}
+use Rattle.net.specs.Net.{Net, rule, meets, held, inBoth, obeys, passes, size, ruleAt, netOf, Answers}
+use Rattle.net.specs.declared.Rule.{Rule}
 use Rattle.net.specs.declared.Wanted.{Wanted}
 use Rattle.net.specs.declared.Found.{Found}
 use Rattle.net.specs.declared.Found.the-variants.{Choice, Nothing}
 use Rattle.net.proofs.Rules.{obeys-apart, first-same}
 use Rattle.seating.proofs.Numbers.{all-below-alike}
-use Rattle.rules.specs.Rules.{rowAt, holds, Added, AddedUpto, Answered}
+use Rattle.rules.specs.Rules.{holds, Added, AddedUpto, Answered}
 
 pub all-more : (p : ℕ → Bool) (k : ℕ) → all p (below (k + 1)) ≡ all p (below k) && p k
 all-more p k = ap (all p) (below-more k) ∙ all-append p (below k) (k ∷ []) ∙ ap (λ (b : Bool). all p (below k) && b) (and-true (p k))
@@ -71,42 +72,40 @@ pub added-empty : {net : List ℕ} {k : ℕ} (when only lo hi m : ℕ) → when 
 added-empty when only lo hi m e = added-none (λ c. obeys-apart m (rule when only lo hi) c (ap (meets m c) e ∙ meets-zero m c))
 
 abbrev pub put : List ℕ → ℕ → ℕ → ℕ → ℕ → ℕ → List ℕ
-put net k when only lo hi = set (set (set (set net k when) (256 + k) only) (512 + k) lo) (768 + k) hi
+put net k when only lo hi = set (set (set (set net (4 * k) when) (4 * k + 1) only) (4 * k + 2) lo) (4 * k + 3) hi
 
-module _ (net : List ℕ) (k when only lo hi : ℕ) (l : k < 256) (room : 1024 ≤ length net) where
-  elsewhere : (j : ℕ) → (j ≡ k → ⊥) → (j ≡ 256 + k → ⊥) → (j ≡ 512 + k → ⊥) → (j ≡ 768 + k → ⊥) → at (put net k when only lo hi) j ≡ at net j
-  elsewhere j a b c d =
-      getD-set-other (set (set (set net k when) (256 + k) only) (512 + k) lo) (768 + k) j hi 0 d
-      ∙ getD-set-other (set (set net k when) (256 + k) only) (512 + k) j lo 0 c
-      ∙ getD-set-other (set net k when) (256 + k) j only 0 b
-      ∙ getD-set-other net k j when 0 a
+module _ (net : List ℕ) (k when only lo hi : ℕ) (room : 4 * k + 3 < length net) where
+  abbrev row : ℕ
+  row = 4 * k
 
-  old : (i : ℕ) → i < k → rowAt (put net k when only lo hi) i ≡ rowAt net i
+  old-cell : (j : ℕ) → j < row → at (put net k when only lo hi) j ≡ at net j
+  old-cell j l =
+      getD-set-other (set (set (set net row when) (row + 1) only) (row + 2) lo) (row + 3) j hi 0 (omega arith)
+      ∙ getD-set-other (set (set net row when) (row + 1) only) (row + 2) j lo 0 (omega arith)
+      ∙ getD-set-other (set net row when) (row + 1) j only 0 (omega arith)
+      ∙ getD-set-other net row j when 0 (omega arith)
+
+  old : (i : ℕ) → i < k → ruleAt (put net k when only lo hi) i ≡ ruleAt net i
   old i g =
-      rw (
-        elsewhere i (omega arith) (omega arith) (omega arith) (omega arith),
-        elsewhere (256 + i) (omega arith) (omega arith) (omega arith) (omega arith),
-        elsewhere (512 + i) (omega arith) (omega arith) (omega arith) (omega arith),
-        elsewhere (768 + i) (omega arith) (omega arith) (omega arith) (omega arith),
-      )
+      rw (old-cell (4 * i) (omega arith), old-cell (4 * i + 1) (omega arith), old-cell (4 * i + 2) (omega arith), old-cell (4 * i + 3) (omega arith))
 
-  new : rowAt (put net k when only lo hi) k ≡ rule when only lo hi
+  new : ruleAt (put net k when only lo hi) k ≡ rule when only lo hi
   new =
-      let a = set net k when in
-      let b = set a (256 + k) only in
-      let c = set b (512 + k) lo in
-      let la : length a ≡ length net = length-set net k when in
-      let lb : length b ≡ length a = length-set a (256 + k) only in
-      let lc : length c ≡ length b = length-set b (512 + k) lo in
-      let e1 : at (put net k when only lo hi) k ≡ when =
-      getD-set-other c (768 + k) k hi 0 (omega arith) ∙ getD-set-other b (512 + k) k lo 0 (omega arith)
-      ∙ getD-set-other a (256 + k) k only 0 (omega arith) ∙ getD-set-same net k when 0 (omega arith) in
-      let e2 : at (put net k when only lo hi) (256 + k) ≡ only =
-      getD-set-other c (768 + k) (256 + k) hi 0 (omega arith) ∙ getD-set-other b (512 + k) (256 + k) lo 0 (omega arith)
-      ∙ getD-set-same a (256 + k) only 0 (omega arith) in
-      let e3 : at (put net k when only lo hi) (512 + k) ≡ lo =
-      getD-set-other c (768 + k) (512 + k) hi 0 (omega arith) ∙ getD-set-same b (512 + k) lo 0 (omega arith) in
-      let e4 : at (put net k when only lo hi) (768 + k) ≡ hi = getD-set-same c (768 + k) hi 0 (omega arith) in
+      let a = set net row when in
+      let b = set a (row + 1) only in
+      let c = set b (row + 2) lo in
+      let la : length a ≡ length net = length-set net row when in
+      let lb : length b ≡ length a = length-set a (row + 1) only in
+      let lc : length c ≡ length b = length-set b (row + 2) lo in
+      let e1 : at (put net k when only lo hi) row ≡ when =
+      getD-set-other c (row + 3) row hi 0 (omega arith) ∙ getD-set-other b (row + 2) row lo 0 (omega arith)
+      ∙ getD-set-other a (row + 1) row only 0 (omega arith) ∙ getD-set-same net row when 0 (omega arith) in
+      let e2 : at (put net k when only lo hi) (row + 1) ≡ only =
+      getD-set-other c (row + 3) (row + 1) hi 0 (omega arith) ∙ getD-set-other b (row + 2) (row + 1) lo 0 (omega arith)
+      ∙ getD-set-same a (row + 1) only 0 (omega arith) in
+      let e3 : at (put net k when only lo hi) (row + 2) ≡ lo =
+      getD-set-other c (row + 3) (row + 2) hi 0 (omega arith) ∙ getD-set-same b (row + 2) lo 0 (omega arith) in
+      let e4 : at (put net k when only lo hi) (row + 3) ≡ hi = getD-set-same c (row + 3) hi 0 (omega arith) in
       rw (e1, e2, e3, e4)
 
   pub added-row : (m : ℕ) → Added net k (put net k when only lo hi) (k + 1) 1 m (obeys m (rule when only lo hi))
@@ -114,35 +113,40 @@ module _ (net : List ℕ) (k when only lo hi : ℕ) (l : k < 256) (room : 1024 �
   added-row m = record {
     few = omega arith;
     says = λ c.
-        all-more (λ i. obeys m (rowAt (put net k when only lo hi) i) c) k
+        all-more (λ i. obeys m (ruleAt (put net k when only lo hi) i) c) k
         ∙ ap₂ (λ (x y : Bool). x && y)
-        (all-below-alike (λ i. obeys m (rowAt (put net k when only lo hi) i) c) (λ i. obeys m (rowAt net i) c) k (λ i g. ap (λ (r : Rule). obeys m r c) (old i g)))
+        (all-below-alike (λ i. obeys m (ruleAt (put net k when only lo hi) i) c) (λ i. obeys m (ruleAt net i) c) k (λ i g. ap (λ (r : Rule). obeys m r c) (old i g)))
         (ap (λ (r : Rule). obeys m r c) new);
   }
 
 -- ---- as the search is lent it
-abbrev pub column : List ℕ → ℕ → List ℕ
-column net j = take 256 (drop j net)
-
-cell : (net : List ℕ) (j i : ℕ) → i < 256 → at (column net j) i ≡ at net (j + i)
-cell net j i l = getD-take 256 (drop j net) i 0 l ∙ getD-drop j net i 0
-
 all-each : {A B : Type 0} (p : B → Bool) (f : A → B) (xs : List A) → all p (each f xs) ≡ all (λ x. p (f x)) xs
 all-each p f [] = refl
 all-each p f (x ∷ xs) = ap (λ (b : Bool). p (f x) && b) (all-each p f xs)
 
-module _ (net : List ℕ) (k : ℕ) (l : k ≤ 256) (want : Wanted) (m : ℕ) where
+-- the cells of the first k rules
+module _ (net : List ℕ) (k : ℕ) (room : 4 * k ≤ length net) (want : Wanted) (m : ℕ) where
+  abbrev cut : List ℕ
+  cut = take (4 * k) net
+
+  size-cut : size cut ≡ k
+  size-cut = omega (arith, length-take-le (4 * k) net room)
+
+  cell : (j : ℕ) → j < 4 * k → at cut j ≡ at net j
+  cell j l = getD-take (4 * k) net j 0 l
+
   abbrev lent : Net
-  lent = netOf net (column net 256) (column net 512) (column net 768) k want
+  lent = netOf cut want
 
   pub passes-holds : (c : ℕ) → passes m lent c ≡ holds net k m c && leb (want .least) (held m c (want .ends))
   unfolding passes netOf holds
   passes-holds c =
       ap (λ (b : Bool). leb (want .least) (held m c (want .ends)) && b)
-      (all-each (λ r. obeys m r c) (ruleAt net (column net 256) (column net 512) (column net 768)) (below k)
-      ∙ all-below-alike (λ i. obeys m (ruleAt net (column net 256) (column net 512) (column net 768) i) c) (λ i. obeys m (rowAt net i) c) k
-      (λ i g. rw (cell net 256 i (omega arith), cell net 512 i (omega arith), cell net 768 i (omega arith))))
-      ∙ and-comm (leb (want .least) (held m c (want .ends))) (all (λ i. obeys m (rowAt net i) c) (below k))
+      (all-each (λ r. obeys m r c) (ruleAt cut) (below (size cut))
+      ∙ ap (λ (n : ℕ). all (λ i. obeys m (ruleAt cut i) c) (below n)) size-cut
+      ∙ all-below-alike (λ i. obeys m (ruleAt cut i) c) (λ i. obeys m (ruleAt net i) c) k
+      (λ i g. rw (cell (4 * i) (omega arith), cell (4 * i + 1) (omega arith), cell (4 * i + 2) (omega arith), cell (4 * i + 3) (omega arith))))
+      ∙ and-comm (leb (want .least) (held m c (want .ends))) (all (λ i. obeys m (ruleAt net i) c) (below k))
 
   pub answers-holds : (f : Found) → Answers lent m f → Answered (λ c. holds net k m c && leb (want .least) (held m c (want .ends))) m f
   unfolding Answers Answered

@@ -1,5 +1,4 @@
--- Rules 1 to 3 on choices as a net of rules over sets of ends: how the net stands in one lent list, and what each row of it says, in the words of
--- seating. Assumes nothing.
+-- Rules 1 to 3 on choices as a net of rules over sets of ends: what each row of it says, in the words of seating. Assumes nothing.
 use mathlib.Core.Path.{_≡_}
 use Prim.Native.Nat.{ℕ, _+_, _-_, _^_, _≤_, _<_}
 use mathlib.Core.Bool.{Bool, true, false, not, _&&_, _||_}
@@ -12,18 +11,14 @@ use Rattle.paper.specs.Table.{nodes, kind, owner, lower, upper, target as targe
 use Rattle.paper.specs.Choices.{FirstOf}
 use Rattle.table.specs.Reading.{tableRead}
 use Rattle.table.specs.declared.Table.{Table}
-use Rattle.net.specs.Net.{Rule, rule, obeys}
+use Rattle.net.specs.Net.{obeys, ruleAt}
 use Rattle.net.specs.declared.Found.{Found}
 use Rattle.net.specs.declared.Found.the-variants.{Choice, Nothing}
 use Rattle.seating.specs.Seating.{Rowed, rivalled, kept, seats, served}
 
--- ---- a net in one list: four columns of 256 cells, one after another
-abbrev pub rowAt : List ℕ → ℕ → Rule
-rowAt net i = rule (at net i) (at net (256 + i)) (at net (512 + i)) (at net (768 + i))
-
--- the set c of m ends obeys the first k rules
+-- ---- the set c of m ends obeys the first k rules of a net
 unfoldable pub holds : List ℕ → ℕ → ℕ → ℕ → Bool
-holds net k m c = all (λ i. obeys m (rowAt net i) c) (below k)
+holds net k m c = all (λ i. obeys m (ruleAt net i) c) (below k)
 
 -- k rules became r, at most `most` of them new, and the new ones say what p does
 pub record Added (before : List ℕ) (k : ℕ) (after : List ℕ) (r most m : ℕ) (p : ℕ → Bool) : Type 0 where

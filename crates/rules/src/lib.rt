@@ -2,13 +2,12 @@
 // leaves a fork, each edge into an action, and each node; a row that no end sets off is left out.
 // Words and numbers only: what they mean for offers is said by the laws of seating. Assumes no more than its `requires`.
 ghost use mathlib.Core.Path.{_≡_};
-ghost use mathlib.Core.Bool.{Bool, not, _&&_, _||_};
+ghost use mathlib.Core.Bool.{not, _&&_, _||_};
 ghost use Prim.Native.Nat.{ℕ, _+_, _-_, _^_, _≤_, _<_};
 ghost use lib.Dec.{leb, eqb};
 ghost use lib.ListN.{length};
 ghost use Rattle.paper.specs.Lists.{at};
 ghost use Rattle.paper.specs.Answers.{good};
-ghost use Rattle.paper.specs.Table.{isBuffer, isOutgoing};
 ghost use Rattle.paper.specs.Operations.{named};
 ghost use Rattle.table.specs.Reading.{tableRead};
 ghost use Rattle.rows.specs.Sets.{Marks};
@@ -19,20 +18,24 @@ use net::Found;
 use net::Wanted;
 use table::Table;
 
+// The cells of a net with as many rules as a call can have: a row each of 20 ends, 64 offers, 64 edges and 48 nodes.
+pub const CELLS: usize = 784;
+
 // ---- one row
 
 // A rule after k others: a set that meets `when` holds from lo to hi of the ends in `only`. One that nothing meets is left out.
 fn add(net: &mut [u32], k: usize, when: u32, only: u32, lo: u32, hi: u32) -> usize
-    requires { ⌜ (k < 256) × (1024 ≤ length (now net)) ⌝ }
+    requires { ⌜ (k < 196) × (784 ≤ length (now net)) ⌝ }
     ensures { λ r. ⌜ ((m : ℕ) → Added (now (net .entry)) k (now (net .exit)) r 1 m (obeys m (rule when only lo hi))) ⌝ }
 {
     if when == 0 {
         return k;
     }
-    net[k] = when;
-    net[256 + k] = only;
-    net[512 + k] = lo;
-    net[768 + k] = hi;
+    let j = 4 * k;
+    net[j] = when;
+    net[j + 1] = only;
+    net[j + 2] = lo;
+    net[j + 3] = hi;
     k + 1
 }
 
@@ -54,7 +57,7 @@ fn add_clash(
     n: usize,
     k: usize,
 ) -> usize
-    requires { ⌜ (count < 256) × (1024 ≤ length (now net)) × Rowed (now ends) n (length (now makers)) × Rowed (now ends) n (length (now foes)) × (k < n) × (n ≤ 20) ⌝ }
+    requires { ⌜ (count < 196) × (784 ≤ length (now net)) × Rowed (now ends) n (length (now makers)) × Rowed (now ends) n (length (now foes)) × (k < n) × (n ≤ 20) ⌝ }
     ensures { λ r. ⌜ Added (now (net .entry)) count (now (net .exit)) r 1 n (clashKept (now (foes .entry)) (now (makers .entry)) (now (ends .entry)) n k) ⌝ }
 {
     let rivals = seating::rivals(foes, makers, ends, n, k);
@@ -75,7 +78,7 @@ fn add_fork(
     n: usize,
     z: usize,
 ) -> usize
-    requires { ⌜ (count < 256) × (1024 ≤ length (now net)) × (tableRead (now t) ≡ good table) × (rows ≤ length (now node)) × (rows ≤ length (now parents)) × Rowed (now ends) n (length (now makers)) × (rows ≤ 64) × (z < rows) × (n ≤ 20) ⌝ }
+    requires { ⌜ (count < 196) × (784 ≤ length (now net)) × (tableRead (now t) ≡ good table) × (rows ≤ length (now node)) × (rows ≤ length (now parents)) × Rowed (now ends) n (length (now makers)) × (rows ≤ 64) × (z < rows) × (n ≤ 20) ⌝ }
     ensures { λ r. ⌜ Added (now (net .entry)) count (now (net .exit)) r 1 n (forkKept (now (t .entry)) (now (node .entry)) (now (parents .entry)) (now (makers .entry)) (now (ends .entry)) rows n z) ⌝ }
 {
     let i = wire::wide(node[z]);
@@ -103,7 +106,7 @@ fn add_edge(
     n: usize,
     e: usize,
 ) -> usize
-    requires { ⌜ (count < 256) × (1024 ≤ length (now net)) × (tableRead (now t) ≡ good table) × (n ≤ length (now edge)) × (n ≤ length (now target)) × (n ≤ length (now home)) × (n ≤ 20) × (e < table .edges) ⌝ }
+    requires { ⌜ (count < 196) × (784 ≤ length (now net)) × (tableRead (now t) ≡ good table) × (n ≤ length (now edge)) × (n ≤ length (now target)) × (n ≤ length (now home)) × (n ≤ 20) × (e < table .edges) ⌝ }
     ensures { λ r. ⌜ Added (now (net .entry)) count (now (net .exit)) r 1 n (edgeKept (now (t .entry)) (now (edge .entry)) (now (target .entry)) (now (home .entry)) n e) ⌝ }
 {
     let i = table.target(t, e);
@@ -118,13 +121,6 @@ fn add_edge(
         1,
         1,
     )
-}
-
-// Whether a node of kind k is one where ends stay: a buffer or an outgoing parameter.
-fn is_store(k: usize) -> bool
-    ensures { λ r. ⌜ r ≡ isBuffer k || isOutgoing k ⌝ }
-{
-    k == Table::BUFFER || k == Table::OUTGOING
 }
 
 // What is left of an upper bound.
@@ -151,7 +147,7 @@ fn add_node(
     stock: &[u8],
     i: usize,
 ) -> usize
-    requires { ⌜ (count < 256) × (1024 ≤ length (now net)) × (tableRead (now t) ≡ good table) × (n ≤ length (now target)) × (n ≤ length (now home)) × (n ≤ 20) × (table .nodes ≤ length (now runs)) × (table .nodes ≤ length (now stock)) × (i < table .nodes) ⌝ }
+    requires { ⌜ (count < 196) × (784 ≤ length (now net)) × (tableRead (now t) ≡ good table) × (n ≤ length (now target)) × (n ≤ length (now home)) × (n ≤ 20) × (table .nodes ≤ length (now runs)) × (table .nodes ≤ length (now stock)) × (i < table .nodes) ⌝ }
     ensures { λ r. ⌜ Added (now (net .entry)) count (now (net .exit)) r 1 n (nodeKept (now (t .entry)) (now (target .entry)) (now (home .entry)) (now (runs .entry)) (now (stock .entry)) n i) ⌝ }
 {
     let kind = table.kind(t, i);
@@ -174,7 +170,7 @@ fn add_node(
             table.upper(t, i) as u32,
         );
     }
-    if !is_store(kind) {
+    if !table::is_store(kind) {
         return count;
     }
     let most = room(table.upper(t, i), wire::wide(stock[i]));
@@ -191,7 +187,7 @@ fn add_clashes(
     ends: &[u8],
     n: usize,
 ) -> usize
-    requires { ⌜ (count + n ≤ 256) × (1024 ≤ length (now net)) × Rowed (now ends) n (length (now makers)) × Rowed (now ends) n (length (now foes)) × (n ≤ 20) ⌝ }
+    requires { ⌜ (count + n ≤ 196) × (784 ≤ length (now net)) × Rowed (now ends) n (length (now makers)) × Rowed (now ends) n (length (now foes)) × (n ≤ 20) ⌝ }
     ensures { λ r. ⌜ AddedUpto (now (net .entry)) count (now (net .exit)) r n (clashKept (now (foes .entry)) (now (makers .entry)) (now (ends .entry)) n) n ⌝ }
 {
     let mut r = count;
@@ -215,7 +211,7 @@ fn add_forks(
     rows: usize,
     n: usize,
 ) -> usize
-    requires { ⌜ (count + rows ≤ 256) × (1024 ≤ length (now net)) × (tableRead (now t) ≡ good table) × (rows ≤ length (now node)) × (rows ≤ length (now parents)) × Rowed (now ends) n (length (now makers)) × (rows ≤ 64) × (n ≤ 20) ⌝ }
+    requires { ⌜ (count + rows ≤ 196) × (784 ≤ length (now net)) × (tableRead (now t) ≡ good table) × (rows ≤ length (now node)) × (rows ≤ length (now parents)) × Rowed (now ends) n (length (now makers)) × (rows ≤ 64) × (n ≤ 20) ⌝ }
     ensures { λ r. ⌜ AddedUpto (now (net .entry)) count (now (net .exit)) r n (forkKept (now (t .entry)) (now (node .entry)) (now (parents .entry)) (now (makers .entry)) (now (ends .entry)) rows n) rows ⌝ }
 {
     let mut r = count;
@@ -237,7 +233,7 @@ fn add_edges(
     home: &[u8],
     n: usize,
 ) -> usize
-    requires { ⌜ (count + table .edges ≤ 256) × (1024 ≤ length (now net)) × (tableRead (now t) ≡ good table) × (n ≤ length (now edge)) × (n ≤ length (now target)) × (n ≤ length (now home)) × (n ≤ 20) ⌝ }
+    requires { ⌜ (count + table .edges ≤ 196) × (784 ≤ length (now net)) × (tableRead (now t) ≡ good table) × (n ≤ length (now edge)) × (n ≤ length (now target)) × (n ≤ length (now home)) × (n ≤ 20) ⌝ }
     ensures { λ r. ⌜ AddedUpto (now (net .entry)) count (now (net .exit)) r n (edgeKept (now (t .entry)) (now (edge .entry)) (now (target .entry)) (now (home .entry)) n) (table .edges) ⌝ }
 {
     let most = table.edges;
@@ -261,7 +257,7 @@ fn add_nodes(
     runs: &[u8],
     stock: &[u8],
 ) -> usize
-    requires { ⌜ (count + table .nodes ≤ 256) × (1024 ≤ length (now net)) × (tableRead (now t) ≡ good table) × (n ≤ length (now target)) × (n ≤ length (now home)) × (n ≤ 20) × (table .nodes ≤ length (now runs)) × (table .nodes ≤ length (now stock)) ⌝ }
+    requires { ⌜ (count + table .nodes ≤ 196) × (784 ≤ length (now net)) × (tableRead (now t) ≡ good table) × (n ≤ length (now target)) × (n ≤ length (now home)) × (n ≤ 20) × (table .nodes ≤ length (now runs)) × (table .nodes ≤ length (now stock)) ⌝ }
     ensures { λ r. ⌜ AddedUpto (now (net .entry)) count (now (net .exit)) r n (nodeKept (now (t .entry)) (now (target .entry)) (now (home .entry)) (now (runs .entry)) (now (stock .entry)) n) (table .nodes) ⌝ }
 {
     let most = table.nodes;
@@ -274,7 +270,7 @@ fn add_nodes(
     r
 }
 
-// The net of a call: how many rules it has. It has room for a row each of 20 ends, 64 offers, 64 edges and 48 nodes.
+// The net of a call: how many rules it has.
 pub fn fill(
     net: &mut [u32],
     t: &[u8],
@@ -292,8 +288,8 @@ pub fn fill(
     runs: &[u8],
     stock: &[u8],
 ) -> usize
-    requires { ⌜ (1024 ≤ length (now net)) × Lent (now t) table (now node) (now parents) (now makers) (now foes) (now ends) (now edge) (now target) (now home) (now runs) (now stock) rows n ⌝ }
-    ensures { λ r. ⌜ (r ≤ 256) × (Roomy (now (t .entry)) (now (stock .entry)) → (c : ℕ) → holds (now (net .exit)) r n c ≡ allowed (now (t .entry)) (now (node .entry)) (now (parents .entry)) (now (makers .entry)) (now (foes .entry)) (now (ends .entry)) (now (edge .entry)) (now (target .entry)) (now (home .entry)) (now (runs .entry)) (now (stock .entry)) rows n c) ⌝ }
+    requires { ⌜ (784 ≤ length (now net)) × Lent (now t) table (now node) (now parents) (now makers) (now foes) (now ends) (now edge) (now target) (now home) (now runs) (now stock) rows n ⌝ }
+    ensures { λ r. ⌜ (r ≤ 196) × (Roomy (now (t .entry)) (now (stock .entry)) → (c : ℕ) → holds (now (net .exit)) r n c ≡ allowed (now (t .entry)) (now (node .entry)) (now (parents .entry)) (now (makers .entry)) (now (foes .entry)) (now (ends .entry)) (now (edge .entry)) (now (target .entry)) (now (home .entry)) (now (runs .entry)) (now (stock .entry)) rows n c) ⌝ }
 {
     let clashes = add_clashes(net, 0, foes, makers, ends, n);
     let forks = add_forks(net, clashes, t, table, node, parents, makers, ends, rows, n);
@@ -319,22 +315,16 @@ pub fn wanted(target: &[u8], home: &[u8], n: usize, node: u8) -> Wanted
 
 // The first set of n ends that obeys the rules of a net and holds what is wanted.
 pub fn first(net: &[u32], count: usize, want: Wanted, n: usize) -> Found
-    requires { ⌜ (n ≤ 20) × (count ≤ 256) × (1024 ≤ length (now net)) ⌝ }
+    requires { ⌜ (n ≤ 20) × (count ≤ 196) × (784 ≤ length (now net)) ⌝ }
     ensures { λ r. ⌜ Answered (λ c. holds (now (net .entry)) count n c && leb (want .least) (held n c (want .ends))) n r ⌝ }
 {
-    let only = &net[256..512];
-    let lo = &net[512..768];
-    let hi = &net[768..1024];
-    net::first(net, only, lo, hi, count, want, n)
+    net::first(&net[0..4 * count], want, n)
 }
 
 // How many states that search visits: what a test can hold down.
 pub fn states(net: &[u32], count: usize, want: Wanted, n: usize) -> usize
-    requires { ⌜ (n ≤ 20) × (count ≤ 256) × (1024 ≤ length (now net)) ⌝ }
+    requires { ⌜ (n ≤ 20) × (count ≤ 196) × (784 ≤ length (now net)) ⌝ }
     ensures { λ r. ⌜ (1 ≤ r) × (r < 2 ^ (n + 22)) ⌝ }
 {
-    let only = &net[256..512];
-    let lo = &net[512..768];
-    let hi = &net[768..1024];
-    net::states(net, only, lo, hi, count, want, n)
+    net::states(&net[0..4 * count], want, n)
 }

@@ -6,8 +6,8 @@ use borrow.Author.Needs.{needs}
 use Rattle.net.proofs.admit.Statement.{statement}
 use Rattle.net.proofs.admit.Tie as tie
 
-only-end-requires : tie.Need-only-end-requires
-only-end-requires c κs = search needs
+end-of-requires : tie.Need-end-of-requires
+end-of-requires c κs = search needs
 
 meets-requires : tie.Need-meets-requires
 meets-requires c κs = search needs
@@ -17,7 +17,7 @@ returns c = search needs
 
 returns-2 : tie.Need-returns-2
 returns-2 c = let a = c .before .before .before .before .before .args in
-    λ p s h. huddled-more p (a .h) (a .foes) (a .k) (c .before .before .before .before .only-end .result) (c .before .before .before .before .before .pre) (c .before .before .before .before .only-end .ensures) (sym (c .before .before .before .meets .ensures) ∙ not-false _ (c .before .before .if1 .left)) s h
+    λ p s h. huddled-more p (a .h) (a .foes) (a .k) (c .before .before .before .before .end-of .result) (c .before .before .before .before .before .pre) (c .before .before .before .before .end-of .ensures) (sym (c .before .before .before .meets .ensures) ∙ not-false _ (c .before .before .if1 .left)) s h
 
 pub admit-spec : {M : Type 1} → statement M
-admit-spec = tie.close (tie.spec only-end-requires meets-requires returns returns-2)
+admit-spec = tie.close (tie.spec end-of-requires meets-requires returns returns-2)

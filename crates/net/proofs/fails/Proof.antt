@@ -4,7 +4,6 @@ use mathlib.Core.Bool.{false}
 use native.Mathlib.Omega.{arith}
 use borrow.Author.Tests.{not-false, ltb-true}
 use Rattle.paper.proofs.Bools.{never}
-use Rattle.net.specs.Net.{rule}
 use Rattle.net.proofs.Pruning.{fails-low, fails-high}
 use borrow.Author.Needs.{needs}
 use Rattle.net.proofs.fails.Statement.{statement}
@@ -21,19 +20,19 @@ held-requires c κs = search needs
 
 returns-2 : tie.Need-returns-2
 returns-2 c = λ e.
-    let a = c .before .before .before .before .args in
-    let q = c .before .held .ensures in
-    fails-low (rule (a .when) (a .only) (a .lo) (a .hi)) (a .b) (sym (c .before .before .before .meets .ensures) ∙ not-false _ (c .before .before .if1 .left)) (omega arith)
+    let a = c .before .before .before .before .before .args in
+    let q = c .before .before .held .ensures in
+    fails-low (a .rule) (a .b) (sym (c .before .before .before .before .meets .ensures) ∙ not-false _ (c .before .before .before .if1 .left)) (omega arith)
 
 held-requires-2 : tie.Need-held-requires-2
 held-requires-2 c κs = search needs
 
 returns-3 : tie.Need-returns-3
 returns-3 c = λ e.
-    let a = c .before .before .before .before .before .args in
-    let q = c .held2 .ensures in
-    let l = ltb-true (a .hi) (c .held2 .result) e in
-    fails-high (rule (a .when) (a .only) (a .lo) (a .hi)) (a .b) (sym (c .before .before .before .before .meets .ensures) ∙ not-false _ (c .before .before .before .if1 .left)) (omega arith)
+    let a = c .before .before .before .before .before .before .before .args in
+    let q = c .before .held2 .ensures in
+    let l = ltb-true (a .rule .hi) (c .before .held2 .result) e in
+    fails-high (a .rule) (a .b) (sym (c .before .before .before .before .before .before .meets .ensures) ∙ not-false _ (c .before .before .before .before .before .if1 .left)) (omega arith)
 
 pub fails-spec : {M : Type 1} → statement M
 fails-spec =

@@ -17,15 +17,15 @@ enum-told : tie.Need-enum-told
 enum-told c = search needs
 
 returns : tie.Need-returns
-returns c = let a = c .before .before .before .before .before .before .before .before .args in
+returns c = let a = c .before .before .before .before .before .args in
     let g = c .before .c .given in
-    answers-choice (netOf (a .when .now) (a .only .now) (a .lo .now) (a .hi .now) (a .n) (a .want)) (a .m) (c .before .before .before .before .before .before .before .before .pre .0) (g .0 .0)
+    answers-choice (netOf (a .net .now) (a .want)) (a .m) (c .before .before .before .before .before .pre) (g .0 .0)
     (sym (ap said (g .1)) ∙ c .before .before .before .search-all .ensures .0)
 
 returns-2 : tie.Need-returns-2
-returns-2 c = let a = c .before .before .before .before .before .before .before .args in
+returns-2 c = let a = c .before .before .before .before .args in
     let g = c .enum-told .given in
-    answers-nothing (netOf (a .when .now) (a .only .now) (a .lo .now) (a .hi .now) (a .n) (a .want)) (a .m) (c .before .before .before .before .before .before .before .pre .0)
+    answers-nothing (netOf (a .net .now) (a .want)) (a .m) (c .before .before .before .before .pre)
     (sym (ap said (g .1)) ∙ c .before .before .search-all .ensures .0)
 
 pub first-spec : {M : Type 1} → statement M

@@ -11,62 +11,44 @@ use Rattle.net.proofs.is_dead.Statement.{statement}
 use Rattle.net.proofs.is_dead.Tie as tie
 
 abbrev Inv-loop : tie.InvT-loop
-Inv-loop when only lo hi n b i₀ i = i ≤ n
+Inv-loop net b n i₀ i = i ≤ n
 
 abbrev μ-loop : tie.MeasureT-loop
-μ-loop when only lo hi n b i₀ i = n - i
+μ-loop net b n i₀ i = n - i
 
 returns : tie.Need-returns Inv-loop μ-loop
 returns c = λ e.
-    let a = c .before .before .before .before .before .before .before .args in
-    none-apart (good (a .when .now) (a .only .now) (a .lo .now) (a .hi .now) (a .n) (a .want)) (a .b) (search needs) (c .if1 .taken)
+    let a = c .before .before .before .before .args in
+    none-apart (good (a .net .now) (a .want)) (a .b) (search needs) (c .if1 .taken)
 
 held-requires : tie.Need-held-requires Inv-loop μ-loop
 held-requires c κs = search needs
 
 returns-2 : tie.Need-returns-2 Inv-loop μ-loop
 returns-2 c = λ e.
-    let a = c .before .before .before .before .before .before .before .before .before .before .args in
+    let a = c .before .before .before .before .before .before .before .args in
     let q = c .before .before .held .ensures in
     let z = c .if2 .taken in
-    none-wanted (a .when .now) (a .only .now) (a .lo .now) (a .hi .now) (a .n) (a .want) (a .b) (omega arith)
+    none-wanted (a .net .now) (a .want) (a .b) (omega arith)
+
+size-requires : tie.Need-size-requires Inv-loop μ-loop
+size-requires c κs = search needs
 
 loop-holds : tie.Need-loop-holds Inv-loop μ-loop
 loop-holds c = search needs
 
-mul-fails : tie.Need-mul-fails Inv-loop μ-loop
-mul-fails c = search needs
-
-shared-slice-read-fails : tie.Need-shared-slice-read-fails Inv-loop μ-loop
-shared-slice-read-fails c = search needs
-
-mul-fails-2 : tie.Need-mul-fails-2 Inv-loop μ-loop
-mul-fails-2 c = search needs
-
-shared-slice-read-fails-2 : tie.Need-shared-slice-read-fails-2 Inv-loop μ-loop
-shared-slice-read-fails-2 c = search needs
-
-mul-fails-3 : tie.Need-mul-fails-3 Inv-loop μ-loop
-mul-fails-3 c = search needs
-
-shared-slice-read-fails-3 : tie.Need-shared-slice-read-fails-3 Inv-loop μ-loop
-shared-slice-read-fails-3 c = search needs
-
-mul-fails-4 : tie.Need-mul-fails-4 Inv-loop μ-loop
-mul-fails-4 c = search needs
-
-shared-slice-read-fails-4 : tie.Need-shared-slice-read-fails-4 Inv-loop μ-loop
-shared-slice-read-fails-4 c = search needs
+rule-at-requires : tie.Need-rule-at-requires Inv-loop μ-loop
+rule-at-requires c κs = search needs
 
 fails-requires : tie.Need-fails-requires Inv-loop μ-loop
 fails-requires c κs = search needs
 
 returns-3 : tie.Need-returns-3 Inv-loop μ-loop
 returns-3 c = λ e.
-    let a = c .before .before .before .before .before .before .before .before .before .before .before .before .before .before .before .before .before .before .args in
-    let l = c .before .before .before .before .before .before .before .loop in
-    let t = c .before .before .before .before .before .before .loop-test .taken in
-    none-rule (a .when .now) (a .only .now) (a .lo .now) (a .hi .now) (a .n) (a .want) (a .b) (l .i) (omega arith) (c .before .fails .ensures (c .if3 .taken))
+    let a = c .before .before .before .before .before .before .before .before .before .before .before .before .before .args in
+    let l = c .before .before .before .before .loop in
+    let t = c .before .before .before .loop-test .taken in
+    none-rule (a .net .now) (a .want) (a .b) (l .i) (omega arith) (c .before .before .rule-at .result) (c .before .before .rule-at .ensures) (c .before .fails .ensures (c .if3 .taken))
 
 add-i : tie.Need-add-i Inv-loop μ-loop
 add-i c = search needs
@@ -89,15 +71,9 @@ is-dead-spec =
     returns
     held-requires
     returns-2
+    size-requires
     loop-holds
-    mul-fails
-    shared-slice-read-fails
-    mul-fails-2
-    shared-slice-read-fails-2
-    mul-fails-3
-    shared-slice-read-fails-3
-    mul-fails-4
-    shared-slice-read-fails-4
+    rule-at-requires
     fails-requires
     returns-3
     add-i

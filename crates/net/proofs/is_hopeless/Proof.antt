@@ -13,8 +13,8 @@ is-dead-requires c κs = search needs
 
 returns : tie.Need-returns
 returns c = λ e.
-    let a = c .before .before .before .before .before .before .args in
-    none-after (good (a .when .now) (a .only .now) (a .lo .now) (a .hi .now) (a .n) (a .want)) (a .b) (c .before .settle .result) (c .before .settle .ensures) (c .is-dead .ensures e)
+    let a = c .before .before .before .args in
+    none-after (good (a .net .now) (a .want)) (a .b) (c .before .settle .result) (c .before .settle .ensures) (c .is-dead .ensures e)
 
 pub is-hopeless-spec : {M : Type 1} → statement M
 is-hopeless-spec = tie.close (tie.spec settle-requires is-dead-requires returns)

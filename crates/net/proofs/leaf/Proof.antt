@@ -1,5 +1,4 @@
 -- `leaf`, by its test. Assumes nothing.
-use borrow.Author.Needs.{needs}
 use Rattle.net.proofs.leaf.Statement.{statement}
 use Rattle.net.proofs.leaf.Tie as tie
 

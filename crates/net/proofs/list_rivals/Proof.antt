@@ -1,9 +1,8 @@
 -- `list_rivals`: the invariant says what the list has of the ends before k. Assumes nothing.
 use mathlib.Core.Path.{_≡_}
-use mathlib.Core.List.{List}
-use Prim.Native.Nat.{ℕ, _-_, _≤_}
+use Prim.Native.Nat.{_-_, _≤_}
 use native.Mathlib.Omega.{arith}
-use lib.ListN.{length, length-set}
+use lib.ListN.{length}
 use Rattle.net.specs.declared.Wanted.{Wanted}
 use Rattle.net.specs.Bounds.{good, Foes}
 use Rattle.net.proofs.Crowding.{foes-more}
@@ -12,13 +11,13 @@ use Rattle.net.proofs.list_rivals.Statement.{statement}
 use Rattle.net.proofs.list_rivals.Tie as tie
 
 abbrev Inv-loop : tie.InvT-loop
-Inv-loop when only hi n m foes₀ k₀ foes k = (k ≤ m) × (length foes ≡ length foes₀) × ((lo : List ℕ) (want : Wanted) → Foes (good when only lo hi n want) k foes)
+Inv-loop net m foes₀ k₀ foes k = (k ≤ m) × (length foes ≡ length foes₀) × ((want : Wanted) → Foes (good net want) k foes)
 
 abbrev μ-loop : tie.MeasureT-loop
-μ-loop when only hi n m foes₀ k₀ foes k = m - k
+μ-loop net m foes₀ k₀ foes k = m - k
 
 loop-holds : tie.Need-loop-holds Inv-loop μ-loop
-loop-holds c = (search needs, search needs, λ lo want j h. absurd (omega arith))
+loop-holds c = (search needs, search needs, λ want j h. absurd (omega arith))
 
 rivals-requires : tie.Need-rivals-requires Inv-loop μ-loop
 rivals-requires c κs = search needs
@@ -36,16 +35,16 @@ loop-less : tie.Need-loop-less Inv-loop μ-loop
 loop-less c = search needs
 
 loop-again : tie.Need-loop-again Inv-loop μ-loop
-loop-again c = let a = c .before .before .before .before .before .before .before .args in
+loop-again c = let a = c .before .before .before .before .before .args in
     let l = c .before .before .loop in
     let e = l .inv .1 in
-    (search needs, search needs, λ lo want. foes-more (good (a .when .now) (a .only .now) lo (a .hi .now) (a .n) want) (l .foes) (l .k) (c .rivals .result) (search needs) (l .inv .2 lo want) (c .rivals .ensures lo want))
+    (search needs, search needs, λ want. foes-more (good (a .net .now) want) (l .foes) (l .k) (c .rivals .result) (search needs) (l .inv .2 want) (c .rivals .ensures want))
 
 same-length : tie.Need-same-length Inv-loop μ-loop
 same-length c = search needs
 
 returns : tie.Need-returns Inv-loop μ-loop
-returns c = λ lo want j h. c .before .loop .inv .2 lo want j (search needs)
+returns c = λ want j h. c .before .loop .inv .2 want j (search needs)
 
 pub list-rivals-spec : {M : Type 1} → statement M
 list-rivals-spec =

@@ -6,10 +6,10 @@ use Rattle.net.proofs.narrow.Statement.{statement}
 use Rattle.net.proofs.narrow.Tie as tie
 
 abbrev Inv-loop : tie.InvT-loop
-Inv-loop when only lo hi n want m low₀ before₀ after₀ low before after = Keeps (good when only lo hi n want) low₀ low
+Inv-loop net want m low₀ before₀ after₀ low before after = Keeps (good net want) low₀ low
 
 abbrev μ-loop : tie.MeasureT-loop
-μ-loop when only lo hi n want m low₀ before₀ after₀ low before after = before
+μ-loop net want m low₀ before₀ after₀ low before after = before
 
 press-requires : tie.Need-press-requires Inv-loop μ-loop
 press-requires c κs = search needs
@@ -24,8 +24,8 @@ slack-requires-2 : tie.Need-slack-requires-2 Inv-loop μ-loop
 slack-requires-2 c κs = search needs
 
 loop-holds : tie.Need-loop-holds Inv-loop μ-loop
-loop-holds c = let a = c .before .before .before .before .before .before .before .before .args in
-    keeps-all (good (a .when .now) (a .only .now) (a .lo .now) (a .hi .now) (a .n) (a .want)) (c .before .probe .result)
+loop-holds c = let a = c .before .before .before .before .before .args in
+    keeps-all (good (a .net .now) (a .want)) (c .before .probe .result)
 
 press-requires-2 : tie.Need-press-requires-2 Inv-loop μ-loop
 press-requires-2 c κs = search needs
@@ -40,19 +40,19 @@ loop-less : tie.Need-loop-less Inv-loop μ-loop
 loop-less c = search needs
 
 loop-again : tie.Need-loop-again Inv-loop μ-loop
-loop-again c = let a = c .before .before .before .before .before .before .before .before .before .before .before .before .before .args in
+loop-again c = let a = c .before .before .before .before .before .before .before .before .before .before .args in
     let l = c .before .before .before .before .loop in
     let s = c .before .before .press2 in
     let p = c .before .probe2 in
-    let g = good (a .when .now) (a .only .now) (a .lo .now) (a .hi .now) (a .n) (a .want) in
+    let g = good (a .net .now) (a .want) in
     keeps-then g (c .before .before .before .before .before .before .probe .result) (l .low) (p .result) (l .inv) (keeps-then g (l .low) (s .result) (p .result) (s .ensures) (p .ensures))
 
 returns : tie.Need-returns Inv-loop μ-loop
-returns c = let a = c .before .before .before .before .before .before .before .before .before .before .args in
+returns c = let a = c .before .before .before .before .before .before .before .args in
     let l = c .before .loop in
     let s = c .before .before .before .before .before .press in
     let p = c .before .before .before .probe in
-    let g = good (a .when .now) (a .only .now) (a .lo .now) (a .hi .now) (a .n) (a .want) in
+    let g = good (a .net .now) (a .want) in
     keeps-then g (a .b) (s .result) (l .low) (s .ensures) (keeps-then g (s .result) (p .result) (l .low) (p .ensures) (l .inv))
 
 pub narrow-spec : {M : Type 1} → statement M

@@ -5,34 +5,22 @@ use Rattle.net.proofs.next_end.Statement.{statement}
 use Rattle.net.proofs.next_end.Tie as tie
 
 abbrev Inv-loop : tie.InvT-loop
-Inv-loop when only lo n b few₀ i₀ few i = i ≤ n
+Inv-loop net b few₀ n i₀ few i = i ≤ n
 
 abbrev μ-loop : tie.MeasureT-loop
-μ-loop when only lo n b few₀ i₀ few i = n - i
+μ-loop net b few₀ n i₀ few i = n - i
 
 lacked-requires : tie.Need-lacked-requires Inv-loop μ-loop
 lacked-requires c κs = search needs
 
+size-requires : tie.Need-size-requires Inv-loop μ-loop
+size-requires c κs = search needs
+
 loop-holds : tie.Need-loop-holds Inv-loop μ-loop
 loop-holds c = search needs
 
-mul-lacking : tie.Need-mul-lacking Inv-loop μ-loop
-mul-lacking c = search needs
-
-shared-slice-read-lacking : tie.Need-shared-slice-read-lacking Inv-loop μ-loop
-shared-slice-read-lacking c = search needs
-
-mul-lacking-2 : tie.Need-mul-lacking-2 Inv-loop μ-loop
-mul-lacking-2 c = search needs
-
-shared-slice-read-lacking-2 : tie.Need-shared-slice-read-lacking-2 Inv-loop μ-loop
-shared-slice-read-lacking-2 c = search needs
-
-mul-lacking-3 : tie.Need-mul-lacking-3 Inv-loop μ-loop
-mul-lacking-3 c = search needs
-
-shared-slice-read-lacking-3 : tie.Need-shared-slice-read-lacking-3 Inv-loop μ-loop
-shared-slice-read-lacking-3 c = search needs
+rule-at-requires : tie.Need-rule-at-requires Inv-loop μ-loop
+rule-at-requires c κs = search needs
 
 lacking-requires : tie.Need-lacking-requires Inv-loop μ-loop
 lacking-requires c κs = search needs
@@ -59,13 +47,9 @@ next-end-spec =
     Inv-loop
     μ-loop
     lacked-requires
+    size-requires
     loop-holds
-    mul-lacking
-    shared-slice-read-lacking
-    mul-lacking-2
-    shared-slice-read-lacking-2
-    mul-lacking-3
-    shared-slice-read-lacking-3
+    rule-at-requires
     lacking-requires
     smaller-requires
     add-i

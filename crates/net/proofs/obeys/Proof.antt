@@ -4,7 +4,7 @@ use mathlib.Core.Bool.{true, false}
 use native.Mathlib.Omega.{arith}
 use lib.Dec.{leb}
 use borrow.Author.Tests.{not-true, not-false, le-leb, lt-leb}
-use Rattle.net.specs.Net.{held, rule}
+use Rattle.net.specs.Net.{held}
 use Rattle.net.proofs.Rules.{obeys-apart, obeys-met}
 use borrow.Author.Needs.{needs}
 use Rattle.net.proofs.obeys.Statement.{statement}
@@ -15,22 +15,22 @@ meets-requires c κs = search needs
 
 returns : tie.Need-returns
 returns c = let a = c .before .before .args in
-    sym (obeys-apart 32 (rule (a .when) (a .only) (a .lo) (a .hi)) (a .c) (sym (c .before .meets .ensures) ∙ not-true _ (c .if1 .taken)))
+    sym (obeys-apart 32 (a .rule) (a .c) (sym (c .before .meets .ensures) ∙ not-true _ (c .if1 .taken)))
 
 held-requires : tie.Need-held-requires
 held-requires c κs = search needs
 
 returns-2 : tie.Need-returns-2
-returns-2 c = let a = c .before .before .before .before .args in
-    let m = sym (c .before .before .before .meets .ensures) ∙ not-false _ (c .before .before .if1 .left) in
-    let w : leb (a .lo) (c .before .held .result) ≡ true = omega (arith, le-leb) in
-    rw (obeys-met 32 (rule (a .when) (a .only) (a .lo) (a .hi)) (a .c) m, sym (c .before .held .ensures), w)
+returns-2 c = let a = c .before .before .before .before .before .before .args in
+    let m = sym (c .before .before .before .before .before .meets .ensures) ∙ not-false _ (c .before .before .before .before .if1 .left) in
+    let w : leb (a .rule .lo) (c .before .before .before .held .result) ≡ true = omega (arith, le-leb) in
+    rw (obeys-met 32 (a .rule) (a .c) m, sym (c .before .before .before .held .ensures), w)
 
 returns-3 : tie.Need-returns-3
-returns-3 c = let a = c .before .before .before .before .args in
-    let m = sym (c .before .before .before .meets .ensures) ∙ not-false _ (c .before .before .if1 .left) in
-    let w : leb (a .lo) (c .before .held .result) ≡ false = omega (arith, lt-leb) in
-    rw (obeys-met 32 (rule (a .when) (a .only) (a .lo) (a .hi)) (a .c) m, sym (c .before .held .ensures), w)
+returns-3 c = let a = c .before .before .before .before .before .args in
+    let m = sym (c .before .before .before .before .meets .ensures) ∙ not-false _ (c .before .before .before .if1 .left) in
+    let w : leb (a .rule .lo) (c .before .before .held .result) ≡ false = omega (arith, lt-leb) in
+    rw (obeys-met 32 (a .rule) (a .c) m, sym (c .before .before .held .ensures), w)
 
 pub obeys-spec : {M : Type 1} → statement M
 obeys-spec = tie.close (tie.spec meets-requires returns held-requires returns-2 returns-3)

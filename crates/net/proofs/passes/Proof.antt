@@ -1,10 +1,11 @@
 -- `passes`: the invariant says that the set obeys the rules before i. Assumes nothing.
-use mathlib.Core.Path.{_≡_, sym, _∙_}
+use mathlib.Core.Path.{_≡_, sym, ap, _∙_}
 use mathlib.Core.Bool.{true}
 use Prim.Native.Nat.{ℕ, _-_, _≤_, _<_}
 use native.Mathlib.Omega.{arith}
 use borrow.Author.Count.{below-more, below-none}
 use borrow.Author.Tests.{not-true, not-false}
+use Rattle.net.specs.declared.Rule.{Rule}
 use Rattle.net.specs.Net.{obeys, ruleAt}
 use Rattle.net.proofs.Rules.{passes-all, passes-unwanted, passes-broken}
 use borrow.Author.Needs.{needs}
@@ -12,56 +13,38 @@ use Rattle.net.proofs.passes.Statement.{statement}
 use Rattle.net.proofs.passes.Tie as tie
 
 abbrev Inv-loop : tie.InvT-loop
-Inv-loop when only lo hi n c i₀ i = (i ≤ n) × ((j : ℕ) → j < i → obeys 32 (ruleAt when only lo hi j) c ≡ true)
+Inv-loop net c n i₀ i = (i ≤ n) × ((j : ℕ) → j < i → obeys 32 (ruleAt net j) c ≡ true)
 
 abbrev μ-loop : tie.MeasureT-loop
-μ-loop when only lo hi n c i₀ i = n - i
+μ-loop net c n i₀ i = n - i
 
 held-requires : tie.Need-held-requires Inv-loop μ-loop
 held-requires c κs = search needs
 
 returns : tie.Need-returns Inv-loop μ-loop
-returns c = let a = c .before .before .before .before .before .before .before .args in
+returns c = let a = c .before .before .before .before .args in
     let q = c .before .before .held .ensures in
     let z = c .if1 .taken in
-    sym (passes-unwanted (a .when .now) (a .only .now) (a .lo .now) (a .hi .now) (a .n) (a .want) 32 (a .c) (omega arith))
+    sym (passes-unwanted (a .net .now) (a .want) 32 (a .c) (omega arith))
+
+size-requires : tie.Need-size-requires Inv-loop μ-loop
+size-requires c κs = search needs
 
 loop-holds : tie.Need-loop-holds Inv-loop μ-loop
-loop-holds c = let a = c .before .before .before .before .before .before .before .args in
-    (search needs, below-none (λ j. obeys 32 (ruleAt (a .when .now) (a .only .now) (a .lo .now) (a .hi .now) j) (a .c) ≡ true))
+loop-holds c = let a = c .before .before .before .before .before .args in
+    (search needs, below-none (λ j. obeys 32 (ruleAt (a .net .now) j) (a .c) ≡ true))
 
-mul-obeys : tie.Need-mul-obeys Inv-loop μ-loop
-mul-obeys c = search needs
-
-shared-slice-read-obeys : tie.Need-shared-slice-read-obeys Inv-loop μ-loop
-shared-slice-read-obeys c = search needs
-
-mul-obeys-2 : tie.Need-mul-obeys-2 Inv-loop μ-loop
-mul-obeys-2 c = search needs
-
-shared-slice-read-obeys-2 : tie.Need-shared-slice-read-obeys-2 Inv-loop μ-loop
-shared-slice-read-obeys-2 c = search needs
-
-mul-obeys-3 : tie.Need-mul-obeys-3 Inv-loop μ-loop
-mul-obeys-3 c = search needs
-
-shared-slice-read-obeys-3 : tie.Need-shared-slice-read-obeys-3 Inv-loop μ-loop
-shared-slice-read-obeys-3 c = search needs
-
-mul-obeys-4 : tie.Need-mul-obeys-4 Inv-loop μ-loop
-mul-obeys-4 c = search needs
-
-shared-slice-read-obeys-4 : tie.Need-shared-slice-read-obeys-4 Inv-loop μ-loop
-shared-slice-read-obeys-4 c = search needs
+rule-at-requires : tie.Need-rule-at-requires Inv-loop μ-loop
+rule-at-requires c κs = search needs
 
 obeys-requires : tie.Need-obeys-requires Inv-loop μ-loop
 obeys-requires c κs = search needs
 
 returns-2 : tie.Need-returns-2 Inv-loop μ-loop
-returns-2 c = let a = c .before .before .before .before .before .before .before .before .before .before .before .before .before .before .before .args in
-    let l = c .before .before .before .before .before .before .before .loop in
-    let t = c .before .before .before .before .before .before .loop-test .taken in
-    sym (passes-broken (a .when .now) (a .only .now) (a .lo .now) (a .hi .now) (a .n) (a .want) 32 (a .c) (l .i) (omega arith) (sym (c .before .obeys .ensures) ∙ not-true _ (c .if2 .taken)))
+returns-2 c = let a = c .before .before .before .before .before .before .before .before .before .before .args in
+    let l = c .before .before .before .before .loop in
+    let t = c .before .before .before .loop-test .taken in
+    sym (passes-broken (a .net .now) (a .want) 32 (a .c) (l .i) (omega arith) (c .before .before .rule-at .result) (c .before .before .rule-at .ensures) (sym (c .before .obeys .ensures) ∙ not-true _ (c .if2 .taken)))
 
 add-i : tie.Need-add-i Inv-loop μ-loop
 add-i c = search needs
@@ -70,15 +53,15 @@ loop-less : tie.Need-loop-less Inv-loop μ-loop
 loop-less c = search needs
 
 loop-again : tie.Need-loop-again Inv-loop μ-loop
-loop-again c = (search needs, below-more _ _ (c .before .before .before .before .before .before .before .loop .inv .1) (sym (c .before .obeys .ensures) ∙ not-false _ (c .if2 .left)))
+loop-again c = (search needs, below-more _ _ (c .before .before .before .before .loop .inv .1) (ap (λ (r : Rule). obeys 32 r (c .before .before .before .before .before .before .before .before .before .before .args .c)) (sym (c .before .before .rule-at .ensures)) ∙ sym (c .before .obeys .ensures) ∙ not-false _ (c .if2 .left)))
 
 returns-3 : tie.Need-returns-3 Inv-loop μ-loop
-returns-3 c = let a = c .before .before .before .before .before .before .before .before .before .args in
+returns-3 c = let a = c .before .before .before .before .before .before .before .args in
     let l = c .before .loop in
-    let q = c .before .before .before .before .held .ensures in
-    let z = c .before .before .if1 .left in
+    let q = c .before .before .before .before .before .held .ensures in
+    let z = c .before .before .before .if1 .left in
     let t = c .loop-test .left in
-    sym (passes-all (a .when .now) (a .only .now) (a .lo .now) (a .hi .now) (a .n) (a .want) 32 (a .c) (omega arith) (λ j h. l .inv .1 j (omega arith)))
+    sym (passes-all (a .net .now) (a .want) 32 (a .c) (omega arith) (λ j h. l .inv .1 j (omega arith)))
 
 pub passes-spec : {M : Type 1} → statement M
 passes-spec =
@@ -88,15 +71,9 @@ passes-spec =
     μ-loop
     held-requires
     returns
+    size-requires
     loop-holds
-    mul-obeys
-    shared-slice-read-obeys
-    mul-obeys-2
-    shared-slice-read-obeys-2
-    mul-obeys-3
-    shared-slice-read-obeys-3
-    mul-obeys-4
-    shared-slice-read-obeys-4
+    rule-at-requires
     obeys-requires
     returns-2
     add-i

@@ -12,8 +12,8 @@ thin-requires : tie.Need-thin-requires
 thin-requires c κs = search needs
 
 returns : tie.Need-returns
-returns c = let a = c .before .before .before .before .before .before .args in
-    keeps-then (good (a .when .now) (a .only .now) (a .lo .now) (a .hi .now) (a .n) (a .want)) (a .b) (c .before .settle .result) (c .thin .result) (c .before .settle .ensures) (c .thin .ensures)
+returns c = let a = c .before .before .before .args in
+    keeps-then (good (a .net .now) (a .want)) (a .b) (c .before .settle .result) (c .thin .result) (c .before .settle .ensures) (c .thin .ensures)
 
 pub press-spec : {M : Type 1} → statement M
 press-spec = tie.close (tie.spec settle-requires thin-requires returns)

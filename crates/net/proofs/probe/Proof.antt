@@ -7,14 +7,14 @@ use Rattle.net.proofs.probe.Statement.{statement}
 use Rattle.net.proofs.probe.Tie as tie
 
 abbrev Inv-loop : tie.InvT-loop
-Inv-loop when only lo hi n want m low₀ k₀ low k = (k ≤ m) × Keeps (good when only lo hi n want) low₀ low
+Inv-loop net want m low₀ k₀ low k = (k ≤ m) × Keeps (good net want) low₀ low
 
 abbrev μ-loop : tie.MeasureT-loop
-μ-loop when only lo hi n want m low₀ k₀ low k = m - k
+μ-loop net want m low₀ k₀ low k = m - k
 
 loop-holds : tie.Need-loop-holds Inv-loop μ-loop
-loop-holds c = let a = c .before .before .before .before .args in
-    (search needs, keeps-all (good (a .when .now) (a .only .now) (a .lo .now) (a .hi .now) (a .n) (a .want)) (a .b))
+loop-holds c = let a = c .before .args in
+    (search needs, keeps-all (good (a .net .now) (a .want)) (a .b))
 
 probe-end-requires : tie.Need-probe-end-requires Inv-loop μ-loop
 probe-end-requires c κs = search needs
@@ -26,9 +26,9 @@ loop-less : tie.Need-loop-less Inv-loop μ-loop
 loop-less c = search needs
 
 loop-again : tie.Need-loop-again Inv-loop μ-loop
-loop-again c = let a = c .before .before .before .before .before .before .before .args in
+loop-again c = let a = c .before .before .before .before .args in
     let l = c .before .before .loop in
-    (search needs, keeps-then (good (a .when .now) (a .only .now) (a .lo .now) (a .hi .now) (a .n) (a .want)) (a .b) (l .low) (c .probe-end .result) (l .inv .1) (c .probe-end .ensures))
+    (search needs, keeps-then (good (a .net .now) (a .want)) (a .b) (l .low) (c .probe-end .result) (l .inv .1) (c .probe-end .ensures))
 
 returns : tie.Need-returns Inv-loop μ-loop
 returns c = c .before .loop .inv .1

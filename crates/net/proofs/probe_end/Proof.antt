@@ -5,8 +5,8 @@ use borrow.Author.Needs.{needs}
 use Rattle.net.proofs.probe_end.Statement.{statement}
 use Rattle.net.proofs.probe_end.Tie as tie
 
-only-end-requires : tie.Need-only-end-requires
-only-end-requires c κs = search needs
+end-of-requires : tie.Need-end-of-requires
+end-of-requires c κs = search needs
 
 without-requires : tie.Need-without-requires
 without-requires c κs = search needs
@@ -27,10 +27,10 @@ strike-requires : tie.Need-strike-requires
 strike-requires c κs = search needs
 
 returns-2 : tie.Need-returns-2
-returns-2 c = let a = c .before .before .before .before .before .before .before .before .before .before .before .before .args in
-    let e = c .before .before .before .before .before .before .before .only-end in
+returns-2 c = let a = c .before .before .before .before .before .before .before .before .before .args in
+    let e = c .before .before .before .before .before .before .before .end-of in
     let with = c .before .before .before .add in
-    probed-in (good (a .when .now) (a .only .now) (a .lo .now) (a .hi .now) (a .n) (a .want)) (a .b) (with .result) (c .strike .result) (e .result) (a .k) (e .ensures)
+    probed-in (good (a .net .now) (a .want)) (a .b) (with .result) (c .strike .result) (e .result) (a .k) (e .ensures)
     (c .before .before .is-hopeless .ensures (c .before .if2 .taken)) (with .ensures (a .k) (e .ensures)) (c .strike .ensures)
 
 strike-requires-2 : tie.Need-strike-requires-2
@@ -43,10 +43,10 @@ add-requires-2 : tie.Need-add-requires-2
 add-requires-2 c κs = search needs
 
 returns-3 : tie.Need-returns-3
-returns-3 c = let a = c .before .before .before .before .before .before .before .before .before .before .before .before .before .before .before .args in
-    let e = c .before .before .before .before .before .before .before .before .before .before .only-end in
+returns-3 c = let a = c .before .before .before .before .before .before .before .before .before .before .before .before .args in
+    let e = c .before .before .before .before .before .before .before .before .before .before .end-of in
     let out = c .before .before .before .strike2 in
-    probed-out (good (a .when .now) (a .only .now) (a .lo .now) (a .hi .now) (a .n) (a .want)) (a .b) (out .result) (c .add2 .result) (e .result) (a .k) (e .ensures)
+    probed-out (good (a .net .now) (a .want)) (a .b) (out .result) (c .add2 .result) (e .result) (a .k) (e .ensures)
     (c .before .before .is-hopeless2 .ensures (c .before .if3 .taken)) (out .ensures) (c .add2 .ensures (a .k) (e .ensures))
 
 returns-4 : tie.Need-returns-4
@@ -56,7 +56,7 @@ pub probe-end-spec : {M : Type 1} → statement M
 probe-end-spec =
     tie.close
     (tie.spec
-    only-end-requires
+    end-of-requires
     without-requires
     meets-requires
     returns

@@ -1,7 +1,5 @@
 -- `rivals`: the invariant says that a set that passes and has end k has none of the rivals found so far. Assumes nothing.
-use mathlib.Core.List.{List}
-use Prim.Native.Nat.{ℕ, _-_, _≤_}
-use Rattle.paper.specs.Lists.{at}
+use Prim.Native.Nat.{_-_, _≤_}
 use Rattle.net.specs.declared.Wanted.{Wanted}
 use Rattle.net.specs.Bounds.{good, Shuns}
 use Rattle.net.proofs.Crowding.{shuns-none, shuns-more}
@@ -10,32 +8,20 @@ use Rattle.net.proofs.rivals.Statement.{statement}
 use Rattle.net.proofs.rivals.Tie as tie
 
 abbrev Inv-loop : tie.InvT-loop
-Inv-loop when only hi n k all₀ i₀ all i = (i ≤ n) × ((lo : List ℕ) (want : Wanted) → Shuns (good when only lo hi n want) k all)
+Inv-loop net k all₀ n i₀ all i = (i ≤ n) × ((want : Wanted) → Shuns (good net want) k all)
 
 abbrev μ-loop : tie.MeasureT-loop
-μ-loop when only hi n k all₀ i₀ all i = n - i
+μ-loop net k all₀ n i₀ all i = n - i
+
+size-requires : tie.Need-size-requires Inv-loop μ-loop
+size-requires c κs = search needs
 
 loop-holds : tie.Need-loop-holds Inv-loop μ-loop
-loop-holds c = let a = c .before .before .before .args in
-    (search needs, λ lo want. shuns-none (good (a .when .now) (a .only .now) lo (a .hi .now) (a .n) want) (a .k))
+loop-holds c = let a = c .before .before .args in
+    (search needs, λ want. shuns-none (good (a .net .now) want) (a .k))
 
-mul-forbidden : tie.Need-mul-forbidden Inv-loop μ-loop
-mul-forbidden c = search needs
-
-shared-slice-read-forbidden : tie.Need-shared-slice-read-forbidden Inv-loop μ-loop
-shared-slice-read-forbidden c = search needs
-
-mul-forbidden-2 : tie.Need-mul-forbidden-2 Inv-loop μ-loop
-mul-forbidden-2 c = search needs
-
-shared-slice-read-forbidden-2 : tie.Need-shared-slice-read-forbidden-2 Inv-loop μ-loop
-shared-slice-read-forbidden-2 c = search needs
-
-mul-forbidden-3 : tie.Need-mul-forbidden-3 Inv-loop μ-loop
-mul-forbidden-3 c = search needs
-
-shared-slice-read-forbidden-3 : tie.Need-shared-slice-read-forbidden-3 Inv-loop μ-loop
-shared-slice-read-forbidden-3 c = search needs
+rule-at-requires : tie.Need-rule-at-requires Inv-loop μ-loop
+rule-at-requires c κs = search needs
 
 forbidden-requires : tie.Need-forbidden-requires Inv-loop μ-loop
 forbidden-requires c κs = search needs
@@ -47,9 +33,9 @@ loop-less : tie.Need-loop-less Inv-loop μ-loop
 loop-less c = search needs
 
 loop-again : tie.Need-loop-again Inv-loop μ-loop
-loop-again c = let a = c .before .before .before .before .before .before .before .before .before .args in
-    let l = c .before .before .before .before .before .loop in
-    (search needs, λ lo want. shuns-more (a .when .now) (a .only .now) lo (a .hi .now) (a .n) want (a .k) (l .all) (c .forbidden .result) (l .i) (search needs) (l .inv .1 lo want) (c .forbidden .ensures (at lo (l .i))))
+loop-again c = let a = c .before .before .before .before .before .before .args in
+    let l = c .before .before .before .loop in
+    (search needs, λ want. shuns-more (a .net .now) want (a .k) (l .all) (c .forbidden .result) (l .i) (search needs) (c .before .rule-at .result) (c .before .rule-at .ensures) (l .inv .1 want) (c .forbidden .ensures))
 
 returns : tie.Need-returns Inv-loop μ-loop
 returns c = c .before .loop .inv .1
@@ -60,13 +46,9 @@ rivals-spec =
     (tie.spec
     Inv-loop
     μ-loop
+    size-requires
     loop-holds
-    mul-forbidden
-    shared-slice-read-forbidden
-    mul-forbidden-2
-    shared-slice-read-forbidden-2
-    mul-forbidden-3
-    shared-slice-read-forbidden-3
+    rule-at-requires
     forbidden-requires
     add-i
     loop-less

@@ -9,10 +9,10 @@ use Rattle.net.proofs.thin.Statement.{statement}
 use Rattle.net.proofs.thin.Tie as tie
 
 abbrev Inv-loop : tie.InvT-loop
-Inv-loop when only lo hi n m foes low₀ i₀ low i = (i ≤ n) × ((want : Wanted) → Keeps (good when only lo hi n want) low₀ low)
+Inv-loop net m foes low₀ n i₀ low i = (i ≤ n) × ((want : Wanted) → Keeps (good net want) low₀ low)
 
 abbrev μ-loop : tie.MeasureT-loop
-μ-loop when only lo hi n m foes low₀ i₀ low i = n - i
+μ-loop net m foes low₀ n i₀ low i = n - i
 
 slice-aggregate-list-rivals : tie.Need-slice-aggregate-list-rivals Inv-loop μ-loop
 slice-aggregate-list-rivals c = search needs
@@ -20,15 +20,18 @@ slice-aggregate-list-rivals c = search needs
 list-rivals-requires : tie.Need-list-rivals-requires Inv-loop μ-loop
 list-rivals-requires c κs = search needs
 
+size-requires : tie.Need-size-requires Inv-loop μ-loop
+size-requires c κs = search needs
+
 loop-holds : tie.Need-loop-holds Inv-loop μ-loop
-loop-holds c = let a = c .before .before .before .before .before .before .before .args in
-    (search needs, λ want. keeps-all (good (a .when .now) (a .only .now) (a .lo .now) (a .hi .now) (a .n) want) (a .b))
+loop-holds c = let a = c .before .before .before .before .before .args in
+    (search needs, λ want. keeps-all (good (a .net .now) want) (a .b))
 
 slice-aggregate-thin-at : tie.Need-slice-aggregate-thin-at Inv-loop μ-loop
 slice-aggregate-thin-at c = search needs
 
 thin-at-requires : tie.Need-thin-at-requires Inv-loop μ-loop
-thin-at-requires c κs = let h = c .before .before .before .before .before .before .before .before .before .before .pre in ((h .0, omega (arith, h .0, c .before .before .before .before .list-rivals .kept), search needs), search needs, search needs, search needs)
+thin-at-requires c κs = let h = c .before .before .before .before .before .before .before .before .pre in (h, omega (arith, h, c .before .before .before .before .before .list-rivals .kept), search needs)
 
 add-i : tie.Need-add-i Inv-loop μ-loop
 add-i c = search needs
@@ -37,16 +40,16 @@ loop-less : tie.Need-loop-less Inv-loop μ-loop
 loop-less c = search needs
 
 loop-again : tie.Need-loop-again Inv-loop μ-loop
-loop-again c = let a = c .before .before .before .before .before .before .before .before .before .before .before .args in
+loop-again c = let a = c .before .before .before .before .before .before .before .before .before .args in
     let l = c .before .before .before .loop in (
       search needs,
       λ want.
-          keeps-then (good (a .when .now) (a .only .now) (a .lo .now) (a .hi .now) (a .n) want) (a .b) (l .low) (c .thin-at .result) (l .inv .1 want)
-          (c .thin-at .ensures (a .hi .now) want (c .before .before .before .before .before .list-rivals .ensures (a .lo .now) want)),
+          keeps-then (good (a .net .now) want) (a .b) (l .low) (c .thin-at .result) (l .inv .1 want)
+          (c .thin-at .ensures want (c .before .before .before .before .before .before .list-rivals .ensures want)),
     )
 
 returns : tie.Need-returns Inv-loop μ-loop
-returns c = c .before .loop .inv .1 (c .before .before .before .before .before .before .before .before .before .args .want)
+returns c = c .before .loop .inv .1 (c .before .before .before .before .before .before .before .args .want)
 
 pub thin-spec : {M : Type 1} → statement M
 thin-spec =
@@ -56,6 +59,7 @@ thin-spec =
     μ-loop
     slice-aggregate-list-rivals
     list-rivals-requires
+    size-requires
     loop-holds
     slice-aggregate-thin-at
     thin-at-requires

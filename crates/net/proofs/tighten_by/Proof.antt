@@ -1,7 +1,6 @@
 -- `tighten_by`: the rule applies to every set between the bounds, or to none. Assumes nothing.
 use mathlib.Core.Path.{sym, _∙_}
 use native.Mathlib.Omega.{arith}
-use Rattle.net.specs.Net.{rule}
 use Rattle.net.proofs.Pruning.{applied, unmet-low, unmet-high}
 use borrow.Author.Needs.{needs}
 use Rattle.net.proofs.tighten_by.Statement.{statement}
@@ -18,7 +17,7 @@ raise-requires c κs = search needs
 
 returns : tie.Need-returns
 returns c = let a = c .before .before .before .before .args in
-    applied (rule (a .when) (a .only) (a .lo) (a .hi)) (a .b) (sym (c .before .before .before .meets .ensures) ∙ c .before .before .if1 .taken) (c .before .fill .result) (c .raise .result) (c .before .fill .ensures) (c .raise .ensures)
+    applied (a .rule) (a .b) (sym (c .before .before .before .meets .ensures) ∙ c .before .before .if1 .taken) (c .before .fill .result) (c .raise .result) (c .before .fill .ensures) (c .raise .ensures)
 
 held-requires : tie.Need-held-requires
 held-requires c κs = search needs
@@ -27,10 +26,10 @@ strike-requires : tie.Need-strike-requires
 strike-requires c κs = search needs
 
 returns-2 : tie.Need-returns-2
-returns-2 c = let a = c .before .before .before .before .before .args in
-    let q = c .before .before .held .ensures in
+returns-2 c = let a = c .before .before .before .before .before .before .args in
+    let q = c .before .before .before .held .ensures in
     let z = c .before .if2 .taken in
-    unmet-low (rule (a .when) (a .only) (a .lo) (a .hi)) (a .b) (omega arith) (c .strike .result) (c .strike .ensures)
+    unmet-low (a .rule) (a .b) (omega arith) (c .strike .result) (c .strike .ensures)
 
 held-requires-2 : tie.Need-held-requires-2
 held-requires-2 c κs = search needs
@@ -39,10 +38,10 @@ strike-requires-2 : tie.Need-strike-requires-2
 strike-requires-2 c κs = search needs
 
 returns-3 : tie.Need-returns-3
-returns-3 c = let a = c .before .before .before .before .before .before .before .args in
-    let q = c .before .before .held2 .ensures in
+returns-3 c = let a = c .before .before .before .before .before .before .before .before .before .args in
+    let q = c .before .before .before .held2 .ensures in
     let z = c .before .if3 .taken in
-    unmet-high (rule (a .when) (a .only) (a .lo) (a .hi)) (a .b) (omega arith) (c .strike2 .result) (c .strike2 .ensures)
+    unmet-high (a .rule) (a .b) (omega arith) (c .strike2 .result) (c .strike2 .ensures)
 
 returns-4 : tie.Need-returns-4
 returns-4 c = search needs

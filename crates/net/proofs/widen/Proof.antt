@@ -5,16 +5,16 @@ use Rattle.net.proofs.widen.Statement.{statement}
 use Rattle.net.proofs.widen.Tie as tie
 
 abbrev Inv-loop : tie.InvT-loop
-Inv-loop when only lo hi n want m b c₀ k₀ c k = k ≤ m
+Inv-loop net want m b c₀ k₀ c k = k ≤ m
 
 abbrev μ-loop : tie.MeasureT-loop
-μ-loop when only lo hi n want m b c₀ k₀ c k = m - k
+μ-loop net want m b c₀ k₀ c k = m - k
 
 loop-holds : tie.Need-loop-holds Inv-loop μ-loop
 loop-holds c = search needs
 
-only-end-requires : tie.Need-only-end-requires Inv-loop μ-loop
-only-end-requires c κs = search needs
+end-of-requires : tie.Need-end-of-requires Inv-loop μ-loop
+end-of-requires c κs = search needs
 
 joined-requires : tie.Need-joined-requires Inv-loop μ-loop
 joined-requires c κs = search needs
@@ -38,7 +38,7 @@ widen-spec =
     Inv-loop
     μ-loop
     loop-holds
-    only-end-requires
+    end-of-requires
     joined-requires
     add-k
     loop-less

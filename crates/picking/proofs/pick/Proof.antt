@@ -14,7 +14,7 @@ same-length : tie.Need-same-length
 same-length c = search needs
 
 returns : tie.Need-returns
-returns c = λ d ts s h f. c .before .before .conclude .ensures d (s .number) (c .before .before .before .before .choose .ensures d ts s h f) (fits-empty s f)
+returns c = λ links d ts s h f. c .before .before .conclude .ensures d (s .number) (c .before .before .before .before .choose .ensures links d ts s h f) (fits-empty s f)
 
 pub pick-spec : {M : Type 1} → statement M
 pick-spec = tie.close (tie.spec choose-requires conclude-requires same-length returns)

@@ -68,8 +68,8 @@ returns c = let a = c .before .before .before .before .before .before .before .b
     let l = cols .last in
     let f = c .before .before .before .before .before .fill in (
       f .ensures .0,
-      λ d ts s m r.
-          sought (a .t .now) d (a .runs .now) (a .stock .now) m (a .offers) ts (a .ends .now) (a .n) s (l .1 .1 .1 .1 .1 .0) (l .1 .1 .1 .1 .1 .1 .0) (l .1 .1 .1 .1 .1 .1 .1 .0) (cols .ensures)
+      λ links d ts s m r.
+          sought (a .t .now) d (a .runs .now) (a .stock .now) m (a .offers) links ts (a .ends .now) (a .n) s (l .1 .1 .1 .1 .1 .0) (l .1 .1 .1 .1 .1 .1 .0) (l .1 .1 .1 .1 .1 .1 .1 .0) (cols .ensures)
           (f .last .0) (f .result) (a .node) (c .wanted .result) (f .ensures .1 (roomy (a .t .now) d (a .runs .now) (a .stock .now) m r)) (c .wanted .ensures),
     )
 

@@ -9,6 +9,9 @@ use Rattle.rules.proofs.add.Tie as tie
 returns : tie.Need-returns
 returns c = λ m. let a = c .before .args in added-empty (a .when) (a .only) (a .lo) (a .hi) m (c .if1 .taken)
 
+mul-j : tie.Need-mul-j
+mul-j c = search needs
+
 mul-net : tie.Need-mul-net
 mul-net c = search needs
 
@@ -49,13 +52,14 @@ same-length : tie.Need-same-length
 same-length c = search needs
 
 returns-2 : tie.Need-returns-2
-returns-2 c = let a = c .before .args in added-row (a .net .now) (a .k) (a .when) (a .only) (a .lo) (a .hi) (c .before .pre .0) (c .before .pre .1)
+returns-2 c = let a = c .before .args in added-row (a .net .now) (a .k) (a .when) (a .only) (a .lo) (a .hi) (search needs)
 
 pub add-spec : {M : Type 1} → statement M
 add-spec =
     tie.close
     (tie.spec
     returns
+    mul-j
     mul-net
     slice-write-net
     add-net

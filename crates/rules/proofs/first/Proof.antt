@@ -1,54 +1,29 @@
--- `rules::first` meets its contract: the parts of the net are its columns. Assumes nothing.
+-- `rules::first` meets its contract: the cells of the first rules are the net. Assumes nothing.
+use Prim.Native.Nat.{_*_}
+use native.Mathlib.Nat.{sub-zero}
 use borrow.Author.Needs.{needs}
 use Rattle.rules.proofs.Rows.{answers-holds}
 use Rattle.rules.proofs.first.Statement.{statement}
 use Rattle.rules.proofs.first.Tie as tie
 
-sub-only : tie.Need-sub-only
-sub-only c = search needs
+mul-first : tie.Need-mul-first
+mul-first c = search needs
 
-part-only-start : tie.Need-part-only-start
-part-only-start c = search needs
+sub-first : tie.Need-sub-first
+sub-first c = search needs
 
-part-only-end : tie.Need-part-only-end
-part-only-end c = search needs
+part-first-start : tie.Need-part-first-start
+part-first-start c = search needs
 
-sub-lo : tie.Need-sub-lo
-sub-lo c = search needs
-
-part-lo-start : tie.Need-part-lo-start
-part-lo-start c = search needs
-
-part-lo-end : tie.Need-part-lo-end
-part-lo-end c = search needs
-
-sub-hi : tie.Need-sub-hi
-sub-hi c = search needs
-
-part-hi-start : tie.Need-part-hi-start
-part-hi-start c = search needs
-
-part-hi-end : tie.Need-part-hi-end
-part-hi-end c = search needs
+part-first-end : tie.Need-part-first-end
+part-first-end c = search needs
 
 first-requires : tie.Need-first-requires
 first-requires c κs = search needs
 
 returns : tie.Need-returns
-returns c = let a = c .before .before .before .before .before .args in answers-holds (a .net .now) (a .count) (c .before .before .before .before .before .pre .1) (a .want) (a .n) _ (c .first .ensures)
+returns c = let a = c .before .before .before .args in answers-holds (a .net .now) (a .count) (search needs) (a .want) (a .n) _ (rw (sub-zero (4 * a .count)) at (c .first .ensures))
 
 pub first-spec : {M : Type 1} → statement M
 first-spec =
-    tie.close
-    (tie.spec
-    sub-only
-    part-only-start
-    part-only-end
-    sub-lo
-    part-lo-start
-    part-lo-end
-    sub-hi
-    part-hi-start
-    part-hi-end
-    first-requires
-    returns)
+    tie.close (tie.spec mul-first sub-first part-first-start part-first-end first-requires returns)
