@@ -10,7 +10,7 @@ use lib.Dec.{leb, ltb}
 use lib.ListN.{length, drop, set, length-append}
 use lib.Seq.{drop-cons, drop-length, sets, length-sets}
 use lib.Pow.{pow-mono, pow-pos}
-use borrow.Author.Tests.{lt-leb, le-leb, leb-true, lt-ltb, le-ltb, ltb-true}
+use borrow.Author.Tests.{lt-leb, le-leb, leb-true, lt-ltb, le-ltb}
 use Rattle.paper.specs.Lists.{at, from, has, below, all, keep}
 use Rattle.paper.specs.Answers.{refused, good, _>>=_, need}
 use Rattle.paper.proofs.Ladders.{no-good, same-good}
@@ -18,8 +18,7 @@ use Rattle.paper.specs.Choices.{Board, howMany, taken}
 use Rattle.paper.specs.Operations.{rising, choiceOf}
 use Rattle.paper.proofs.Bools.{and-never, and-true, and-both}
 use Rattle.paper.proofs.Digits.{digit-in, digit-out}
-use Rattle.paper.proofs.Lists.{below-more, below-split}
-use Rattle.paper.proofs.Lengths.{length-keep, length-from}
+use Rattle.paper.proofs.Lists.{below-more, below-split, keep-append}
 use Rattle.wire.proofs.Laws.{sets-then, sets-front}
 use Rattle.choosing.specs.Choice.{isChoice, choiceRead, numbers}
 
@@ -121,27 +120,7 @@ module _ (ks : List ℕ) (n : ℕ) where
   unfolding isChoice
   choice-is = refl
 
-upward-small : (n c low : ℕ) (ks : List ℕ) → c < 2 ^ low → low ≤ n → upward n low ks ≡ true → c + choiceOf ks < 2 ^ n
-upward-small n c low [] s l e = omega (arith, pow-mono {i = low} {j = n} l)
-upward-small n c low (k ∷ ks) s l e =
-    let q = and-true (leb low k) _ e in
-    let r = and-true (ltb k n) _ (q .1) in
-    let h : c + 2 ^ k < 2 ^ suc k = omega (arith, pow-mono {i = low} {j = k} (leb-true low k (q .0))) in
-    omega (arith, upward-small n (c + 2 ^ k) (suc k) ks h (ltb-true k n (r .0)) (r .1))
-
--- a choice among n ends is a set of n
-pub choice-small : (ks : List ℕ) (n : ℕ) → isChoice ks n ≡ true → choiceOf ks < 2 ^ n
-choice-small ks n e = omega (arith, upward-small n 0 0 ks (pow-pos 0) (omega arith) (sym (choice-upward n ks) ∙ e))
-
 -- ---- writing
-keep-append : (p : ℕ → Bool) (xs ys : List ℕ) → keep p (xs ++ ys) ≡ keep p xs ++ keep p ys
-keep-append p [] ys = refl
-keep-append p (x ∷ xs) ys = by (p x) (keep-append p xs ys)
-  where
-    by : (c : Bool) → keep p (xs ++ ys) ≡ keep p xs ++ keep p ys → cond c (x ∷ keep p (xs ++ ys)) (keep p (xs ++ ys)) ≡ cond c (x ∷ keep p xs) (keep p xs) ++ keep p ys
-    by true e = ap (λ l. x ∷ l) e
-    by false e = e
-
 module _ (c k : ℕ) where
   numbers-more : numbers c (k + 1) ≡ numbers c k ++ cond (has c k) (k ∷ []) []
   unfolding numbers
@@ -156,10 +135,6 @@ module _ (c k : ℕ) where
 pub numbers-none : (c : ℕ) → numbers c 0 ≡ []
 unfolding numbers
 numbers-none c = refl
-
-pub numbers-most : (c n : ℕ) → length (numbers c n) ≤ n
-unfolding numbers
-numbers-most c n = omega (arith, length-keep (has c) (below n), length-from 0 n)
 
 -- a taken end's number has room if all have
 pub numbers-room : (c n k : ℕ) → k < n → has c k ≡ true → length (numbers c k) < length (numbers c n)

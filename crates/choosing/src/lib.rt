@@ -15,14 +15,6 @@ pub enum ChoiceAnswer {
     Refused(u8, u8),
 }
 
-// The set of end k alone.
-fn only(k: usize) -> u32
-    requires { ⌜ k < 32 ⌝ }
-    ensures { λ r. ⌜ r ≡ 2 ^ k ⌝ }
-{
-    1u32 << (k as u32)
-}
-
 // Whether end k is in the set.
 pub fn is_taken(c: u32, k: usize) -> bool
     requires { ⌜ k < 32 ⌝ }
@@ -48,7 +40,7 @@ pub fn read_choice(ks: &[u8], n: usize) -> ChoiceAnswer
         if n <= k {
             return ChoiceAnswer::Refused(9, 0);
         }
-        c = c + only(k);
+        c = c + words::end_of(k);
         low = k + 1;
         i += 1;
     }

@@ -1,11 +1,10 @@
 -- What deliver answers, from what it was given: a refusal of rows 15 and 16, or the reply. Assumes nothing.
 use mathlib.Core.Path.{_≡_, refl, sym, subst, ap, _∙_}
-use mathlib.Core.Bool.{false}
 use mathlib.Core.List.{List}
 use Prim.Native.Nat.{ℕ}
 use lib.ListN.{length}
 use Rattle.paper.specs.Lists.{oneIf}
-use Rattle.paper.specs.Answers.{Answer, refused, good, _>>=_}
+use Rattle.paper.specs.Answers.{refused, good}
 use Rattle.paper.specs.Marking.{Marking, encode}
 use Rattle.paper.specs.Operations.{packed, inRoom, Reply}
 use Rattle.marking.specs.declared.values.ValuesAnswer.{ValuesAnswer}

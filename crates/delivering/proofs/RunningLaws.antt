@@ -9,7 +9,7 @@ use Rattle.paper.specs.Lists.{oneIf}
 use Rattle.paper.specs.Table.{nodes, kind, isAction}
 use Rattle.paper.specs.Marking.{Marking}
 use Rattle.paper.proofs.Bools.{and-true}
-use Rattle.giving.proofs.GainLaws.{one-if}
+use Rattle.paper.proofs.Bytes.{flag-back}
 use Rattle.delivering.specs.Running.{runsIn}
 
 pub no-node : (t : List ℕ) (m : Marking) (a : ℕ) → nodes t ≤ a → runsIn t m a ≡ false
@@ -27,4 +27,4 @@ running-node t m a h = ltb-true a (nodes t) (and-true (ltb a (nodes t)) _ (and-t
 
 -- the running byte says it
 pub runs-as : (t : List ℕ) (m : Marking) (a r : ℕ) → a < nodes t → kind t a ≡ 2 → r ≡ oneIf (m .runs a) → runsIn t m a ≡ eqb r 1
-runs-as t m a r l k e = rw (lt-ltb a (nodes t) l, k, e) (sym (one-if (m .runs a)))
+runs-as t m a r l k e = rw (lt-ltb a (nodes t) l, k, e) (sym (flag-back (m .runs a)))

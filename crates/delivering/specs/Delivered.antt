@@ -3,7 +3,7 @@ use Prim.Native.Nat.{ℕ}
 use mathlib.Core.Path.{_≡_}
 use mathlib.Core.Bool.{Bool, false}
 use mathlib.Core.List.{List}
-use Rattle.paper.specs.Answers.{Answer, refused, good, _>>=_}
+use Rattle.paper.specs.Answers.{Answer, good, _>>=_}
 use Rattle.paper.specs.Marking.{Marking, encode}
 use Rattle.giving.specs.Giving.{giveOf, Ready}
 

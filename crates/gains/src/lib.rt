@@ -2,7 +2,7 @@
 // The values that come to a node stand one behind another in a slice of their own. A final has no stock, so nobody looks at what came to it.
 use table::Table;
 ghost use mathlib.Core.Path.{_≡_};
-ghost use mathlib.Core.Bool.{not, _&&_, _||_, cond};
+ghost use mathlib.Core.Bool.{not, _&&_, cond};
 ghost use Prim.Native.Nat.{_+_, _*_, _≤_, _<_};
 ghost use lib.Dec.{eqb};
 ghost use lib.ListN.{length};
@@ -10,9 +10,12 @@ ghost use lib.Seq.{sets};
 ghost use Rattle.paper.specs.Lists.{at, has, gather};
 ghost use Rattle.paper.specs.Bytes.{four};
 ghost use Rattle.table.specs.Reading.{Spans};
-ghost use Rattle.seating.specs.Seating.{Rowed, served};
+ghost use Rattle.seating.specs.Seating.{Rowed};
 ghost use Rattle.losses.specs.Filling.{Filled};
 ghost use Rattle.gains.specs.Gains.{brought, coming, Brought, starts};
+
+// Room for the values of 20 ends.
+pub const ROOM: usize = 80;
 
 // Whether end k is taken, goes to node i and has a value.
 fn brings_value(target: &[u8], valued: &[u8], ends: &[u8], c: u32, i: usize, k: usize) -> bool

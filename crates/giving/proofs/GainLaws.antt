@@ -1,36 +1,23 @@
 -- Laws of tokens gained. Assumes nothing.
-use mathlib.Core.Path.{_≡_, refl, sym, ap, _∙_}
-use Prim.Native.Nat.{ℕ, zero, suc, _+_, _*_, _≤_, _<_}
+use mathlib.Core.Path.{_≡_, refl, sym, _∙_}
+use Prim.Native.Nat.{ℕ, suc, _+_, _≤_, _<_}
 use native.Mathlib.Omega.{arith}
-use mathlib.Core.Bool.{Bool, true, false, not, _&&_, cond}
-use mathlib.Core.List.{List, [], _∷_, _++_}
+use mathlib.Core.Bool.{Bool, true, false, _&&_}
+use mathlib.Core.List.{List}
 use mathlib.Core.Logic.{⊎-elim}
-use mathlib.Core.Option.{Option, none, some}
-use lib.Dec.{leb, ltb, eqb}
-use lib.ListN.{length, take, drop, set, length-drop, length-append}
-use lib.Seq.{getD-set-same, getD-set-other, take-at, drop-cons}
-use borrow.Author.Tests.{eqb-true, eqb-false, ltb-true, lt-ltb, le-ltb, le-leb}
+use mathlib.Core.Option.{none}
+use lib.Dec.{leb}
+use lib.ListN.{length, set}
+use lib.Seq.{getD-set-other}
+use borrow.Author.Tests.{lt-ltb, le-leb}
 use borrow.Author.Count.{below-more}
-use Rattle.paper.specs.Lists.{at, gather, oneIf}
-use Rattle.paper.specs.Bytes.{four, listed}
-use Rattle.paper.specs.Table.{nodes, edges, kind, source, isObjectNode, isAction}
-use Rattle.paper.specs.Marking.{Marking, counted, hasTokens}
-use Rattle.paper.specs.Operations.{idled}
-use Rattle.paper.proofs.Bools.{never, and-true, true-or-false, iff}
-use Rattle.paper.proofs.Lists.{below-all}
-use Rattle.marking.proofs.Laws.{all-fails}
-use Rattle.paper.proofs.Bytes.{length-listed}
-use Rattle.paper.proofs.Lengths.{drop-head}
-use Rattle.marking.specs.declared.reading.MarkingAnswer.{MarkingAnswer}
-use Rattle.marking.specs.Reading.{NodeNoted, NodesNoted, EdgesNoted, MarkingRead}
-use Rattle.marking.specs.Values.{isListed, ValuesNoted}
-use Rattle.holding.specs.Holding.{EdgesHeld}
+use Rattle.paper.specs.Lists.{at}
+use Rattle.paper.specs.Table.{edges, source}
+use Rattle.paper.specs.Marking.{counted, hasTokens}
+use Rattle.paper.proofs.Bools.{never, and-true, true-or-false}
+use Rattle.paper.proofs.Lists.{below-all, all-fails}
 use Rattle.holding.proofs.HoldingLaws.{set-more}
 use Rattle.giving.specs.Giving.{CountsHeld, Gained, gained}
-
-pub one-if : (b : Bool) → eqb (oneIf b) 1 ≡ b
-one-if true = refl
-one-if false = refl
 
 pub counted-has : (t : List ℕ) (j : ℕ) → j < edges t → hasTokens t j ≡ counted t j
 counted-has t j l = rw (lt-ltb j (edges t) l)

@@ -1,33 +1,31 @@
 -- Rows 15 and 16: what the three readings of a gift come to. Assumes nothing.
 use mathlib.Core.Path.{_≡_, refl, sym, ap, ap₂, _∙_}
-use Prim.Native.Nat.{ℕ, zero, suc, _+_, _*_, _≤_, _<_}
+use Prim.Native.Nat.{ℕ, _+_, _≤_, _<_}
 use native.Mathlib.Omega.{arith}
-use mathlib.Core.Bool.{Bool, true, false, _&&_, cond}
-use mathlib.Core.Logic.{⊎-elim}
-use mathlib.Core.List.{List, [], _∷_, _++_}
+use mathlib.Core.Bool.{Bool, true, false, _&&_}
+use mathlib.Core.List.{List, _++_}
 use mathlib.Core.Option.{Option, none, some}
-use lib.Dec.{leb, ltb}
-use lib.ListN.{length, take, drop, length-append}
-use borrow.Author.Tests.{leb-true, ltb-true, lt-ltb}
+use lib.Dec.{leb}
+use lib.ListN.{length, length-append}
+use borrow.Author.Tests.{leb-true, lt-ltb}
 use Rattle.paper.specs.Lists.{at, all, below, gather}
 use Rattle.paper.specs.Answers.{Answer, refused, good}
 use Rattle.paper.specs.Bytes.{four}
 use Rattle.paper.specs.Limits.{limits}
-use Rattle.paper.specs.Table.{nodes, edges, kind, upper, source, isObjectNode, tableFine}
-use Rattle.paper.specs.Marking.{Marking, counted, hasStock, hasTokens}
+use Rattle.paper.specs.Table.{nodes, edges, kind, upper, source, isObjectNode}
+use Rattle.paper.specs.Marking.{Marking, hasTokens}
 use Rattle.paper.specs.Operations.{valueLists, listFor, given, roomIn}
-use Rattle.paper.proofs.Bools.{never, and-true, and-both}
+use Rattle.paper.proofs.Bools.{never}
 use Rattle.paper.proofs.Lists.{all-below}
 use Rattle.paper.proofs.Ladders.{no-good, need-good, known-good, same-good}
 use Rattle.paper.proofs.Lengths.{gather-append}
-use Rattle.paper.proofs.Members.{In, in-keep-below}
+use Rattle.paper.proofs.Members.{in-keep-below}
 use Rattle.paper.proofs.Given.{not-listed}
 use Rattle.paper.proofs.Tables.{GoodTable, upper-fits}
-use Rattle.marking.specs.Values.{isListed, listedNodes, ValuesNoted, ValuesRead, saidOf}
-use Rattle.holding.specs.Holding.{NodesHeld, EdgesHeld}
-use Rattle.writing.specs.Writing.{Becomes, NodeSources, Sources}
-use Rattle.giving.specs.Giving.{CountsHeld, Fires, gained, Amounts, Gained, giveOf, Ready, Gives}
-use Rattle.marking.specs.declared.values.ValuesAnswer.{ValuesAnswer}
+use Rattle.marking.specs.Values.{isListed, listedNodes, ValuesNoted, ValuesRead}
+use Rattle.holding.specs.Holding.{EdgesHeld}
+use Rattle.writing.specs.Writing.{Becomes, Sources}
+use Rattle.giving.specs.Giving.{gained, Amounts, Gained, giveOf, Ready, Gives}
 use Rattle.marking.specs.declared.values.ValuesAnswer.the-variants.{Good, Refused}
 
 -- the reader of lists taken apart

@@ -10,7 +10,7 @@ ghost use mathlib.Core.List.{List};
 ghost use Prim.Native.Nat.{ℕ, _+_, _≤_, _<_};
 ghost use lib.Dec.{leb, eqb};
 ghost use lib.ListN.{length};
-ghost use Rattle.paper.specs.Lists.{at, all, below, oneIf};
+ghost use Rattle.paper.specs.Lists.{all, below, oneIf};
 ghost use Rattle.paper.specs.Answers.{good};
 ghost use Rattle.paper.specs.Table.{nodes, source, upper, kind as kindOf};
 ghost use Rattle.paper.specs.Marking.{Marking, hasTokens};

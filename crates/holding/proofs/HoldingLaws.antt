@@ -1,28 +1,24 @@
 -- Laws of a marking as lent slices say it. Assumes nothing.
 use mathlib.Core.Path.{_≡_, refl, sym, ap, _∙_}
-use Prim.Native.Nat.{ℕ, zero, suc, _+_, _*_, _≤_, _<_}
+use Prim.Native.Nat.{ℕ, suc, _+_, _*_, _<_}
 use native.Mathlib.Omega.{arith}
 use mathlib.Core.Bool.{Bool, true, false, not, _&&_, cond}
 use mathlib.Core.List.{List, [], _∷_, _++_}
-use mathlib.Core.Logic.{⊎-elim}
 use mathlib.Core.Option.{Option, none, some}
-use lib.Dec.{leb, ltb, eqb}
+use lib.Dec.{ltb, eqb}
 use lib.ListN.{length, take, drop, set, length-drop, length-append}
 use lib.Seq.{getD-set-same, getD-set-other, take-at, drop-cons}
-use borrow.Author.Tests.{eqb-true, eqb-false, ltb-true, lt-ltb, le-ltb, le-leb}
-use borrow.Author.Count.{below-more}
+use borrow.Author.Tests.{eqb-true, eqb-false, ltb-true, lt-ltb, le-ltb}
 use Rattle.paper.specs.Lists.{at, gather, oneIf}
 use Rattle.paper.specs.Bytes.{four, listed}
-use Rattle.paper.specs.Table.{nodes, edges, kind, source, isObjectNode, isAction}
-use Rattle.paper.specs.Marking.{Marking, counted, hasTokens}
+use Rattle.paper.specs.Table.{nodes, edges, kind, isObjectNode, isAction}
+use Rattle.paper.specs.Marking.{Marking, counted}
 use Rattle.paper.specs.Operations.{idled}
-use Rattle.paper.proofs.Bools.{never, and-true, true-or-false, iff}
-use Rattle.paper.proofs.Lists.{below-all}
-use Rattle.marking.proofs.Laws.{all-fails}
+use Rattle.paper.proofs.Bools.{iff}
 use Rattle.paper.proofs.Bytes.{length-listed}
 use Rattle.paper.proofs.Lengths.{drop-head}
 use Rattle.marking.specs.declared.reading.MarkingAnswer.{MarkingAnswer}
-use Rattle.marking.specs.Reading.{NodeNoted, NodesNoted, EdgesNoted, MarkingRead}
+use Rattle.marking.specs.Reading.{NodesNoted, EdgesNoted, MarkingRead}
 use Rattle.marking.specs.Values.{isListed, ValuesNoted}
 use Rattle.holding.specs.Holding.{NodesHeld, EdgesHeld, HeldRead}
 

@@ -6,7 +6,6 @@ use mathlib.Core.List.{List}
 use mathlib.Core.Option.{Option, none, some}
 use native.Mathlib.Omega.{arith}
 use lib.ListN.{length}
-use Rattle.paper.specs.Limits.{limits}
 use Rattle.paper.specs.Answers.{good}
 use Rattle.paper.specs.Marking.{Marking, marking, Good}
 use Rattle.paper.proofs.Bytes.{Bytes}

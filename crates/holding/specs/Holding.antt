@@ -1,14 +1,13 @@
 -- A marking as lent slices say it while it changes: where each stock's values stand and how many are kept, what runs, and the counts. Assumes nothing.
-use Prim.Native.Nat.{ℕ, suc, _+_, _<_}
+use Prim.Native.Nat.{ℕ, _<_}
 use mathlib.Core.Path.{_≡_}
-use mathlib.Core.Bool.{Bool, true, false, _&&_, cond}
+use mathlib.Core.Bool.{true}
 use mathlib.Core.List.{List}
 use mathlib.Core.Option.{Option, none, some}
-use lib.Dec.{leb}
-use Rattle.paper.specs.Lists.{at, all, below, oneIf}
+use Rattle.paper.specs.Lists.{at, oneIf}
 use Rattle.paper.specs.Answers.{refused, good}
-use Rattle.paper.specs.Table.{nodes, edges, kind, source, isObjectNode, isAction}
-use Rattle.paper.specs.Marking.{Marking, counted, hasTokens}
+use Rattle.paper.specs.Table.{nodes, edges, kind, isObjectNode, isAction}
+use Rattle.paper.specs.Marking.{Marking, counted}
 use Rattle.marking.specs.declared.reading.MarkingAnswer.{MarkingAnswer}
 use Rattle.marking.specs.Reading.{said}
 use Rattle.marking.specs.Values.{ValuesNoted}

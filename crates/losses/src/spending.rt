@@ -6,7 +6,7 @@ ghost use mathlib.Core.Bool.{true, _&&_, cond};
 ghost use Prim.Native.Nat.{ℕ, _+_, _*_, _-_, _^_, _≤_, _<_};
 ghost use lib.Dec.{eqb};
 ghost use lib.ListN.{length};
-ghost use Rattle.paper.specs.Lists.{at, has, any};
+ghost use Rattle.paper.specs.Lists.{at, any};
 ghost use Rattle.paper.specs.Table.{out, source, kind as kindOf, isObjectNode};
 ghost use Rattle.table.specs.Reading.{Spans};
 ghost use Rattle.losses.specs.Filling.{Filled};

@@ -2,27 +2,24 @@
 use mathlib.Core.Path.{_≡_, refl, sym, ap, ap₂, _∙_}
 use Prim.Native.Nat.{ℕ, zero, suc, _+_, _-_, _*_, _≤_, _<_}
 use native.Mathlib.Omega.{arith}
-use native.Mathlib.Nat.{zero-add, add-zero, add-suc, suc-add}
-use native.Mathlib.Numerals.{add-one}
 use mathlib.Core.Bool.{Bool, true, false, not, _&&_, _||_, cond}
-use mathlib.Core.Logic.{_⊎_, inl, inr, ⊎-elim}
-use mathlib.Core.List.{List, [], _∷_, _++_, append-nil, append-assoc}
+use mathlib.Core.List.{List, [], _∷_, _++_, append-nil}
 use mathlib.Core.Option.{Option, none, some}
 use lib.Dec.{leb, ltb, eqb}
 use lib.ListN.{length, drop, set, length-drop}
-use lib.Seq.{getD-set-same, getD-set-other, getD-drop, drop-cons}
+use lib.Seq.{getD-set-same, getD-set-other, getD-drop}
 use borrow.Author.Tests.{eq-eqb, ne-eqb, eqb-true, eqb-false, ltb-true, le-leb, lt-leb}
 use Rattle.paper.specs.Lists.{at, all, from, below, keep, each, gather, oneIf, _⇒_}
 use Rattle.paper.specs.Answers.{refused, good}
 use Rattle.paper.specs.Bytes.{goOn, _>>=_, done, fail, whole, framed, byte, valuesRead, upTo, four, listed}
-use Rattle.paper.specs.Table.{nodes, edges, nodeFine, isPin, isOutgoing, kind, owner, lower, upper, isInput, edgeKind, source, isInitial, isObjectNode, isAction}
+use Rattle.paper.specs.Table.{nodes, edges, isPin, isOutgoing, kind, owner, lower, upper, isInput, edgeKind, source, isInitial, isObjectNode, isAction}
 use Rattle.paper.specs.Marking.{Marking, blank, Field, stockOf, runsOf, tokensOf, written, counted, nodeFields, fieldRead, fieldsRead, layout, pinFine, cleared, markingFine, markingRead, marking}
 use Rattle.paper.proofs.Members.{In, Distinct, in-none, in-one}
 use Rattle.paper.proofs.Lengths.{gather-append, drop-head}
 use Rattle.paper.proofs.Counts.{all-append, all-gather}
 use Rattle.paper.proofs.Fields.{fields-append, node-once, node-only, not-both}
-use Rattle.paper.proofs.Bools.{never, and-true, false-if}
-use Rattle.paper.proofs.Lists.{all-below, below-more, below-split}
+use Rattle.paper.proofs.Bools.{never, and-true}
+use Rattle.paper.proofs.Lists.{below-more, below-split}
 use Rattle.paper.proofs.Tables.{NodeFields}
 use Rattle.paper.proofs.Bytes.{Bytes, never-some, same-read, went-on}
 use Rattle.paper.proofs.Cursor.{byte-at, byte-none}
@@ -197,9 +194,6 @@ zero-of true x e h = absurd (h e)
 zero-of false x e h = refl
 
 -- ---- a test of every number below n
-pub all-fails : (p : ℕ → Bool) (n k : ℕ) → k < n → p k ≡ false → all p (below n) ≡ false
-all-fails p n k l e = false-if (all p (below n)) (λ h. never (p k) (all-below p n h k l) e)
-
 -- ---- pins, and an ended marking
 module _ (t : List ℕ) (m : Marking) where
   pub no-pin : (p : ℕ) → isInput (kind t p) ≡ false → pinFine t m p ≡ true

@@ -1,10 +1,9 @@
 -- Laws of reading value lists at a place. Assumes nothing.
 use mathlib.Core.Path.{_≡_, refl, sym, ap, ap₂, _∙_}
-use Prim.Native.Nat.{ℕ, zero, suc, _+_, _-_, _*_, _/_, _%_, _^_, _≤_, _<_}
+use Prim.Native.Nat.{ℕ, suc, _+_, _-_, _*_, _/_, _%_, _≤_, _<_}
 use native.Mathlib.Omega.{arith}
-use mathlib.Core.Bool.{Bool, true, false, _&&_, cond}
-use mathlib.Core.Logic.{_⊎_, inl, inr, ⊎-elim}
-use mathlib.Core.List.{List, [], _∷_, _++_, append-nil, append-assoc}
+use mathlib.Core.Bool.{Bool, true, false, cond}
+use mathlib.Core.List.{List, [], _∷_, _++_, append-nil}
 use mathlib.Core.Option.{Option, none, some}
 use lib.Dec.{eqb}
 use lib.ListN.{length, take, drop, set, length-drop, length-append}
@@ -12,20 +11,19 @@ use lib.Seq.{getD-set-same, getD-set-other, getD-drop, take-at, drop-cons}
 use borrow.Author.Tests.{eq-eqb, ne-eqb, eqb-true, eqb-false}
 use Rattle.paper.specs.Lists.{at, from, below, keep, gather}
 use Rattle.paper.specs.Limits.{limits}
-use Rattle.paper.specs.Bytes.{Reader, goOn, _>>=_, done, whole, four, listed, valuesRead, eachRead}
-use Rattle.paper.specs.Table.{nodes, kind, owner}
+use Rattle.paper.specs.Bytes.{Reader, goOn, _>>=_, done, four, listed, valuesRead, eachRead}
+use Rattle.paper.specs.Table.{nodes}
 use Rattle.paper.specs.Answers.{refused, good}
 use Rattle.paper.specs.Operations.{valueLists, listFor}
-use Rattle.paper.proofs.Bools.{never, true-or-false}
-use Rattle.paper.proofs.Members.{In, here, later, in-none, in-keep-below}
-use Rattle.paper.proofs.Lists.{below-more, below-split}
+use Rattle.paper.proofs.Members.{In, here, later, in-keep-below}
+use Rattle.paper.proofs.Lists.{below-more, below-split, keep-append}
 use Rattle.paper.proofs.Given.{not-listed}
-use Rattle.paper.proofs.Bytes.{Bytes, never-some, same-read, went-on, values-are, length-listed}
+use Rattle.paper.proofs.Bytes.{Bytes, same-read, went-on, values-are, length-listed}
 use Rattle.marking.proofs.Laws.{reads-as}
 use Rattle.marking.specs.Reading.{Reads}
 use Rattle.marking.specs.Values.{isListed, listedAt, listedNodes, ValuesNoted, ValuesRead, saidOf}
 use Rattle.marking.specs.declared.reading.Next.{Next}
-use Rattle.marking.specs.declared.reading.Next.the-variants.{At, Bad}
+use Rattle.marking.specs.declared.reading.Next.the-variants.{At}
 use Rattle.marking.specs.declared.values.ValuesAnswer.{ValuesAnswer}
 
 -- ---- lists one after another
@@ -70,14 +68,6 @@ list-new i [] [] vs l e = rw (eq-eqb i i refl)
 list-new i [] (x ∷ vss) vs l e = absurd (omega arith)
 list-new i (p ∷ ps) [] vs l e = absurd (omega arith)
 list-new i (p ∷ ps) (x ∷ vss) vs l e = rw (ne-eqb i p (λ q. e (here q))) (list-new i ps vss vs (omega arith) (λ m. e (later m)))
-
-keep-append : (p : ℕ → Bool) (xs ys : List ℕ) → keep p (xs ++ ys) ≡ keep p xs ++ keep p ys
-keep-append p [] ys = refl
-keep-append p (x ∷ xs) ys = by (p x) (keep-append p xs ys)
-  where
-    by : (c : Bool) → keep p (xs ++ ys) ≡ keep p xs ++ keep p ys → cond c (x ∷ keep p (xs ++ ys)) (keep p (xs ++ ys)) ≡ cond c (x ∷ keep p xs) (keep p xs) ++ keep p ys
-    by true h = ap (λ (l : List ℕ). x ∷ l) h
-    by false h = h
 
 -- where values that were read stand
 four-length : (vs : List ℕ) → length (gather four vs) ≡ 4 * length vs

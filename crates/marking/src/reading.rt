@@ -1,12 +1,12 @@
 // Row 5: reading a marking. One walk, front to back, notes where each node's field and each counted edge's byte stands.
 use table::Table;
 ghost use mathlib.Core.Path.{_≡_};
-ghost use mathlib.Core.Bool.{Bool, true, false, _&&_};
+ghost use mathlib.Core.Bool.{Bool, true, false};
 ghost use mathlib.Core.List.{List};
 ghost use Prim.Native.Nat.{ℕ, _+_, _≤_, _<_};
 ghost use lib.ListN.{length, drop};
 ghost use Rattle.paper.specs.Lists.{at, all, below, gather};
-ghost use Rattle.paper.specs.Bytes.{valuesRead, upTo, byte};
+ghost use Rattle.paper.specs.Bytes.{valuesRead, upTo};
 ghost use Rattle.paper.specs.Table.{nodes, edges};
 ghost use Rattle.paper.specs.Marking.{Marking, blank, counted, nodeFields, fieldsRead, marking, markingFine, pinFine};
 ghost use Rattle.paper.specs.Answers.{good};

@@ -2,7 +2,7 @@
 use mathlib.Core.Path.{_≡_, refl, sym, ap, _∙_, subst}
 use mathlib.Core.Bool.{Bool, true, false, not, _&&_, _||_}
 use Prim.Native.Nat.{ℕ, zero, suc, _+_, _-_, _*_, _/_, _%_, _^_, _≤_, _<_, min, max}
-use native.Mathlib.Nat.{one-mul, zero-mul, zero-div, mod-lt, mod-eq-of-lt, div-eq-of-lt, zero-lt-suc, le-refl, lt-of-lt-of-le, lt-of-le-of-lt, pow-suc}
+use native.Mathlib.Nat.{one-mul, zero-mul, mod-lt, mod-eq-of-lt, div-eq-of-lt, zero-lt-suc, le-refl, lt-of-lt-of-le, lt-of-le-of-lt, pow-suc}
 use native.Mathlib.Omega.{arith}
 use native.Mathlib.Numerals.{one-add}
 use native.Mathlib.Decide.{decLt}
@@ -11,6 +11,7 @@ use lib.Pow.{pow-lt, pow-add, pow-mono, shl-exact, shl-shr, mod-pow-add}
 use lib.Bits.{and-le-l, bitAnd, bitOr, and-shr, or-shr, and-step, or-step}
 use borrow.Author.Tests.{eq-eqb, ne-eqb, eqb-true, not-true}
 use Rattle.paper.specs.Lists.{has, any, below}
+use Rattle.paper.proofs.Digits.{has-zero, zero-of}
 use Rattle.paper.proofs.Bools.{never, and-true, and-both}
 use Rattle.paper.proofs.Members.{any-in, in-below, below-in, any-none}
 
@@ -79,9 +80,6 @@ has-or x y k = rw (bit-or x y k) (max-bit (bit x k) (bit y k) (bit-lt x k) (bit-
 pub has-and : (x y k : ℕ) → has (bitAnd x y) k ≡ has x k && has y k
 has-and x y k = rw (bit-and x y k) (min-bit (bit x k) (bit y k) (bit-lt x k) (bit-lt y k))
 
-pub has-zero : (k : ℕ) → has 0 k ≡ false
-has-zero k = rw (zero-div (2 ^ k))
-
 pub has-high : (x n k : ℕ) → x < 2 ^ n → n ≤ k → has x k ≡ false
 has-high x n k h l = rw (div-eq-of-lt (lt-of-lt-of-le h (pow-mono l)))
 
@@ -98,14 +96,9 @@ has-pow n k =
       ]
     ]
 
-digit-false : (b : ℕ) → b < 2 → eqb b 1 ≡ false → b ≡ 0
-digit-false zero h e = refl
-digit-false (suc zero) h e = never true refl e
-digit-false (suc (suc b)) h e = absurd (omega arith)
-
 -- a word with no digit set is 0
 pub no-digit : (x n : ℕ) → x < 2 ^ n → ((k : ℕ) → k < n → has x k ≡ false) → x ≡ 0
-no-digit x n l h = sym (mod-eq-of-lt l) ∙ no-bits x n (λ k q. digit-false (bit x k) (bit-lt x k) (h k q))
+no-digit x n l h = sym (mod-eq-of-lt l) ∙ no-bits x n (λ k q. zero-of (bit x k) (bit-lt x k) (h k q))
 
 -- ---- two words meet
 pub meet-has : (x y n : ℕ) → x < 2 ^ n → not (eqb (bitAnd x y) 0) ≡ true → (j : ℕ) × (j < n) × (has x j ≡ true) × (has y j ≡ true)

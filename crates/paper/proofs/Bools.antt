@@ -29,9 +29,6 @@ pub or-false : (a b : Bool) → a || b ≡ false → (a ≡ false) × (b ≡ fal
 or-false true b h = never true refl h
 or-false false b h = (refl, h)
 
-pub or-both : (a b : Bool) → a ≡ false → b ≡ false → a || b ≡ false
-or-both a b p q = rw (p, q)
-
 pub or-true : (a b : Bool) → a || b ≡ true → (a ≡ true) ⊎ (b ≡ true)
 or-true true b h = inl refl
 or-true false b h = inr h

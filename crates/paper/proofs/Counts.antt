@@ -1,16 +1,16 @@
 -- Laws of any, all and count: over lists one after another, over what was kept, and over the numbers below n. Assumes nothing.
-use mathlib.Core.Path.{_≡_, refl, sym, ap, ap₂, _∙_}
+use mathlib.Core.Path.{_≡_, refl, sym, ap, _∙_}
 use Prim.Native.Nat.{ℕ, zero, suc, _+_, _≤_, _<_}
 use native.Mathlib.Omega.{arith}
-use native.Mathlib.Nat.{zero-add, add-zero}
+use native.Mathlib.Nat.{zero-add}
 use mathlib.Core.Bool.{Bool, true, false, not, _&&_, _||_, cond, and-false}
 use mathlib.Core.Logic.{⊎-elim}
 use mathlib.Core.List.{List, [], _∷_, _++_}
-use lib.Dec.{leb, eqb}
+use lib.Dec.{eqb}
 use lib.ListN.{length}
-use borrow.Author.Tests.{eqb-true, eqb-false, eq-eqb, ne-eqb, le-leb}
-use Rattle.paper.specs.Lists.{from, below, all, any, keep, gather, count, oneIf}
-use Rattle.paper.proofs.Bools.{never, and-true, and-both, or-left, or-right, true-or-false, false-if}
+use borrow.Author.Tests.{eqb-true, eqb-false, eq-eqb, ne-eqb}
+use Rattle.paper.specs.Lists.{below, all, any, keep, gather, count, oneIf}
+use Rattle.paper.proofs.Bools.{and-both, or-left, or-right, true-or-false}
 use Rattle.paper.proofs.Lists.{below-suc}
 
 module _ {A : Type 0} (p : A → Bool) where
@@ -130,9 +130,6 @@ any-below-here p (suc n) k y l =
     any-below p n
     ∙ ⊎-elim (λ e. or-right (any p (below n)) (p n) (ap p (sym (eqb-true k n e)) ∙ y))
     (λ e. or-left (any p (below n)) (p n) (any-below-here p n k y (lt-of k n l (eqb-false k n e)))) (true-or-false (eqb k n))
-
-pub any-below-false : (p : ℕ → Bool) (n : ℕ) → any p (below n) ≡ false → (k : ℕ) → k < n → p k ≡ false
-any-below-false p n h k l = false-if (p k) (λ y. never (any p (below n)) (any-below-here p n k y l) h)
 
 pub any-below-self : (q : ℕ → Bool) (n a : ℕ) → a < n → any (λ x. q x && eqb x a) (below n) ≡ q a
 any-below-self q n a l =

@@ -29,7 +29,7 @@ has-mod n k j l =
 pub digit-in : (x k acc : ℕ) → x % 2 ^ k ≡ acc → has x k ≡ true → x % 2 ^ suc k ≡ acc + 2 ^ k
 digit-in x k acc e h = let d : x / 2 ^ k % 2 ≡ 1 = eqb-true _ 1 h in split x k ∙ rw (d, e) (omega arith)
 
-zero-of : (d : ℕ) → d < 2 → eqb d 1 ≡ false → d ≡ 0
+pub zero-of : (d : ℕ) → d < 2 → eqb d 1 ≡ false → d ≡ 0
 zero-of zero h e = refl
 zero-of (suc zero) h e = absurd (eqb-false 1 1 e refl)
 zero-of (suc (suc d)) h e = absurd (omega arith)
@@ -60,5 +60,5 @@ module _ (x k acc : ℕ) (la : acc < 2 ^ k) where
       (ne-eqb (x / 2 ^ k % 2) 1 (λ o. omega (arith, r .0)), r .1)
 
 -- 0 is the set of none
-pub has-none : (k : ℕ) → has 0 k ≡ false
-has-none k = rw (zero-div (2 ^ k))
+pub has-zero : (k : ℕ) → has 0 k ≡ false
+has-zero k = rw (zero-div (2 ^ k))

@@ -20,7 +20,7 @@ use Rattle.paper.proofs.Members.{keep-none, none-any}
 use Rattle.paper.proofs.Lists.{lowest-none}
 use Rattle.paper.proofs.Bytes.{Bytes}
 use Rattle.paper.proofs.OneMarking.{content, same-fields, read-room, read-is-good}
-use Rattle.paper.proofs.Digits.{has-none}
+use Rattle.paper.proofs.Digits.{has-zero}
 use Rattle.paper.proofs.Boards.{GoodBoard, board-good}
 use Rattle.paper.proofs.Picks.{EmptyFine, searched, searched-picks}
 
@@ -28,7 +28,7 @@ use Rattle.paper.proofs.Picks.{EmptyFine, searched, searched-picks}
 module _ (d : Board) where
   pub takes-none : taken d 0 ≡ []
   unfolding taken
-  takes-none = keep-none (has 0) (below (howMany d)) (λ k m. has-none k)
+  takes-none = keep-none (has 0) (below (howMany d)) (λ k m. has-zero k)
 
   pub no-ends : takenEnds d 0 ≡ []
   unfolding takenEnds

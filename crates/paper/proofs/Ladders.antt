@@ -1,5 +1,5 @@
 -- Ladders of rows: one that ends well has passed every row. Assumes nothing.
-use mathlib.Core.Path.{_≡_, refl}
+use mathlib.Core.Path.{_≡_, refl, sym}
 use Prim.Native.Nat.{ℕ, _<_}
 use native.Mathlib.Omega.{arith}
 use mathlib.Core.Bool.{Bool, true, false, not}
@@ -16,6 +16,15 @@ no-good {n = n} {p = p} {a = a} h = let z : _≡_ {A = ℕ} 0 1 = cc in absurd (
 -- an answer gives one value
 pub same-good : {A : Type 0} {x y : A} → _≡_ {A = Answer A} (good x) (good y) → x ≡ y
 same-good h = cc
+
+-- a row that only lets by or refuses
+pub need-refused : (k : ℕ) (v : Bool) (n p : ℕ) → refused n p ≡ need k v → (v ≡ false) × (n ≡ k) × (p ≡ 0)
+need-refused k true n p h = no-good h
+need-refused k false n p h = (refl, cc h, cc h)
+
+pub need-passed : (k : ℕ) (v : Bool) → good tt ≡ need k v → v ≡ true
+need-passed k true h = refl
+need-passed k false h = no-good (sym h)
 
 module _ {A : Type 0} where
   pub row-good : {B : Type 0} (r : Answer B) (f : B → Answer A) (a : A) → r >>= f ≡ good a → (x : B) × (r ≡ good x) × (f x ≡ good a)

@@ -9,6 +9,7 @@ use mathlib.Core.Logic.{⊎-elim}
 use mathlib.Core.List.{List, [], _∷_, _++_}
 use mathlib.Core.Option.{Option, none, some}
 use Rattle.paper.specs.Lists.{from, below, find, all, lowest, keep}
+use Rattle.paper.proofs.Bools.{never, false-if}
 use Rattle.paper.proofs.Members.{in-all, all-in, in-below, below-in}
 
 -- ---- numbers below n
@@ -17,6 +18,9 @@ all-below p n h k l = all-in p h (below-in n l)
 
 pub below-all : (p : ℕ → Bool) (n : ℕ) → ((k : ℕ) → k < n → p k ≡ true) → all p (below n) ≡ true
 below-all p n h = in-all p (below n) (λ k m. h k (in-below n m))
+
+pub all-fails : (p : ℕ → Bool) (n k : ℕ) → k < n → p k ≡ false → all p (below n) ≡ false
+all-fails p n k l e = false-if (all p (below n)) (λ h. never (p k) (all-below p n h k l) e)
 
 from-split : (i k n : ℕ) → from i (k + n) ≡ from i k ++ from (i + k) n
 from-split i zero n = rw (zero-add n, add-zero i)
@@ -97,3 +101,12 @@ from-same p q (suc n) i h =
 
 pub keep-same : (p q : ℕ → Bool) (n : ℕ) → ((k : ℕ) → k < n → p k ≡ q k) → keep p (below n) ≡ keep q (below n)
 keep-same p q n h = from-same p q n 0 (λ k a b. h k (omega arith))
+
+-- ---- lists one behind the other
+pub keep-append : {A : Type 0} (p : A → Bool) (xs ys : List A) → keep p (xs ++ ys) ≡ keep p xs ++ keep p ys
+keep-append p [] ys = refl
+keep-append p (x ∷ xs) ys = by (p x) (keep-append p xs ys)
+  where
+    by : (b : Bool) → keep p (xs ++ ys) ≡ keep p xs ++ keep p ys → cond b (x ∷ keep p (xs ++ ys)) (keep p (xs ++ ys)) ≡ cond b (x ∷ keep p xs) (keep p xs) ++ keep p ys
+    by true e = ap (λ z. x ∷ z) e
+    by false e = e

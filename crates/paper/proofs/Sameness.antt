@@ -11,7 +11,7 @@ use Rattle.paper.specs.Limits.{limits}
 use Rattle.paper.specs.Table.{edges, kind, source, into, isJoin, isControlNode}
 use Rattle.paper.specs.Marking.{Marking}
 use Rattle.paper.specs.Offers.{Offer, first, over, with, same, sameValue, elem, lastEdge, value, parts, compete, firsts, ways, handed, offersOn, offers}
-use Rattle.paper.proofs.Bools.{never, and-true, and-both, false-if}
+use Rattle.paper.proofs.Bools.{never, and-true, and-both}
 use Rattle.paper.proofs.Members.{In, here, any-in, in-any, in-none, in-each, in-equal, Distinct, distinct-keep, distinct-each, distinct-gather, distinct-below}
 use Rattle.paper.proofs.Origins.{Handed, starts, extends, joins, in-firsts, on-none, on-view, distinct-into}
 
@@ -55,9 +55,6 @@ elem-in {o} os h = let r = any-in (same o) os h in in-equal (same-eq o (r .0) (r
 pub in-elem : {o : Offer} {os : List Offer} → In o os → elem o os ≡ true
 unfolding elem
 in-elem {o} m = in-any (same o) m (same-refl o)
-
-pub distinct-elem : (o : Offer) (os : List Offer) → Distinct (o ∷ os) → elem o os ≡ false
-distinct-elem o os d = false-if (elem o os) (λ h. d .0 (elem-in os h))
 
 -- ---- the last edge
 module _ (t : List ℕ) (goes : ℕ → Option ℕ → Bool) (m : Marking) where

@@ -1,11 +1,11 @@
 -- What start, step and finish write reads back to what was meant, so that refusal 5 never follows from it. Assumes nothing.
-use mathlib.Core.Path.{_≡_, refl, sym, ap, subst, _∙_}
+use mathlib.Core.Path.{_≡_, subst}
 use Prim.Native.Nat.{ℕ}
 use mathlib.Core.Bool.{false, not}
 use borrow.Author.Tests.{not-true}
 use mathlib.Core.List.{List}
 use mathlib.Core.Option.{some}
-use Rattle.paper.specs.Answers.{Answer, refused, good, _>>=_}
+use Rattle.paper.specs.Answers.{good}
 use Rattle.paper.specs.Limits.{limits}
 use Rattle.paper.specs.Table.{tableFine}
 use Rattle.paper.specs.Marking.{Marking, encode, marking, Good}

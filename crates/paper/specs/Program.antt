@@ -8,7 +8,7 @@ use lib.Dec.{ltb}
 use lib.ListN.{length, take, drop}
 use Rattle.paper.specs.Lists.{at, below, each, gather}
 use Rattle.paper.specs.Answers.{Answer, refused, good}
-use Rattle.paper.specs.Offers.{Offer, lastEdge, value, sortedPaths, targetOf}
+use Rattle.paper.specs.Offers.{lastEdge, value, sortedPaths, targetOf}
 use Rattle.paper.specs.Choices.{Board, board, howMany, end}
 use Rattle.paper.specs.Operations.{Pick}
 

@@ -214,10 +214,6 @@ pub is-marked : (b : Bool) → (oneIf b ≡ 0 → ⊥) → b ≡ true
 is-marked true e = refl
 is-marked false e = absurd (e refl)
 
-pub mark-is : (b : Bool) → eqb (oneIf b) 1 ≡ b
-mark-is true = refl
-mark-is false = refl
-
 pub at-chain-end : (t : List ℕ) (i : ℕ) → chain t (limits .longestPath - 1) i ≡ true → shapeFine t i ≡ false
 unfolding shapeFine chainFine
 at-chain-end t i e = simp (e, and-false)

@@ -1,6 +1,6 @@
 -- What a table's reading says of its bytes, for the operations above: the ladder's rows where it is refused, and what every reader may rely on where
 -- it is good. Assumes nothing.
-use mathlib.Core.Path.{_≡_, refl, sym, ap, _∙_}
+use mathlib.Core.Path.{_≡_, refl, sym, ap}
 use Prim.Native.Nat.{ℕ, zero, suc, _≤_, _<_}
 use native.Mathlib.Omega.{arith}
 use mathlib.Core.Bool.{Bool, true, false, not}

@@ -1,12 +1,13 @@
 // A table's bytes by their fields: the counts of a table, and accessors that every reader goes by.
 // Assumes nothing. Functions that read fields require that the bytes span the counts (`Spans`).
 ghost use mathlib.Core.Path.{_≡_};
+ghost use mathlib.Core.Bool.{_||_};
 ghost use mathlib.Core.List.{List};
 ghost use Prim.Native.Nat.{ℕ, _≤_, _<_};
 ghost use lib.ListN.{length};
 ghost use Rattle.paper.specs.Lists.{within};
 ghost use Rattle.paper.specs.Table.{header, nodes, edges, nodeAt, edgeAt, kind, owner, lower, upper, edgeKind, source, target, guarded};
-ghost use Rattle.paper.specs.Table.{isPin, isObjectNode, isControlNode};
+ghost use Rattle.paper.specs.Table.{isPin, isBuffer, isOutgoing, isObjectNode, isControlNode};
 ghost use Rattle.table.specs.Reading.{Spans};
 
 // The counts of a table, whose bytes stand beside it.
@@ -181,6 +182,13 @@ pub fn is_object_node(k: usize) -> bool
     ensures { λ r. ⌜ r ≡ isObjectNode k ⌝ }
 {
     within(Table::INPUT, Table::OUTGOING, k)
+}
+
+// Whether a node of kind k keeps what comes to it: a buffer or an outgoing parameter.
+pub fn is_store(k: usize) -> bool
+    ensures { λ r. ⌜ r ≡ isBuffer k || isOutgoing k ⌝ }
+{
+    k == Table::BUFFER || k == Table::OUTGOING
 }
 
 pub fn is_control_node(k: usize) -> bool

@@ -1,4 +1,4 @@
-// Words that stand for sets of offers: a digit of a word, and whether two offers clash, as their nodes and words say.
+// Words that stand for sets of offers or of ends: a digit of a word, and whether two offers clash, as their nodes and words say.
 // Assumes nothing.
 ghost use mathlib.Core.Path.{_≡_};
 ghost use mathlib.Core.Bool.{_||_};
@@ -13,6 +13,14 @@ pub fn bit_of(k: usize) -> u64
     ensures { λ r. ⌜ r ≡ 2 ^ k ⌝ }
 {
     1u64 << (k as u32)
+}
+
+// The set of end k alone: a choice is a word of 32 digits.
+pub fn end_of(k: usize) -> u32
+    requires { ⌜ k < 32 ⌝ }
+    ensures { λ r. ⌜ r ≡ 2 ^ k ⌝ }
+{
+    1u32 << (k as u32)
 }
 
 // Whether a word has the number i.

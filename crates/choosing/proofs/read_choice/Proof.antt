@@ -36,13 +36,13 @@ returns-2 c = let a = c .before .before .before .before .before .before .before 
     let h : a .n ≤ at (a .ks .now) (s .i) = omega (arith, c .before .before .wide .ensures .0) in
     read-refused (a .ks .now) (a .n) (reading-high (s .inv) (c .before .before .before .before .loop-test .taken) h)
 
-only-requires : tie.Need-only-requires Inv-loop μ-loop
-only-requires c κs = search needs
+end-of-requires : tie.Need-end-of-requires Inv-loop μ-loop
+end-of-requires c κs = search needs
 
 add-c : tie.Need-add-c Inv-loop μ-loop
 add-c c = let a = c .before .before .before .before .before .before .before .before .args in
     let s = c .before .before .before .before .before .before .loop in
-    omega (arith, c .only .ensures, in-mask (a .n) (s .c) (s .low) (c .before .before .before .wide .result) (s .inv .small) (omega arith) (omega arith) (c .before .before .before .before .before .before .before .before .pre))
+    omega (arith, c .end-of .ensures, in-mask (a .n) (s .c) (s .low) (c .before .before .before .wide .result) (s .inv .small) (omega arith) (omega arith) (c .before .before .before .before .before .before .before .before .pre))
 
 add-low : tie.Need-add-low Inv-loop μ-loop
 add-low c = search needs
@@ -59,7 +59,7 @@ loop-again c = let a = c .before .before .before .before .before .before .before
     let e : c .before .before .before .wide .result ≡ at (a .ks .now) (s .i) = c .before .before .before .wide .ensures .0 in
     let lo : s .low ≤ at (a .ks .now) (s .i) = omega arith in
     let hi : at (a .ks .now) (s .i) < a .n = omega arith in
-    rw (c .only .ensures, e) (reading-next (s .inv) (c .before .before .before .before .before .loop-test .taken) lo hi)
+    rw (c .end-of .ensures, e) (reading-next (s .inv) (c .before .before .before .before .before .loop-test .taken) lo hi)
 
 returns-3 : tie.Need-returns-3 Inv-loop μ-loop
 returns-3 c = read-good (c .before .loop .inv) (c .loop-test .left)
@@ -75,7 +75,7 @@ read-choice-spec =
     wide-requires
     returns
     returns-2
-    only-requires
+    end-of-requires
     add-c
     add-low
     add-i

@@ -5,8 +5,9 @@ use borrow.Author.Tests.{not-true, not-false}
 use lib.Dec.{eqb}
 use Rattle.paper.specs.Lists.{at, oneIf}
 use Rattle.paper.specs.Table.{source}
+use Rattle.paper.proofs.Bytes.{flag-back}
 use Rattle.table.proofs.Reading.{read-spans, source-node}
-use Rattle.giving.proofs.GainLaws.{counted-has, one-if}
+use Rattle.giving.proofs.GainLaws.{counted-has}
 use borrow.Author.Needs.{needs}
 use Rattle.giving.proofs.gains.Statement.{statement}
 use Rattle.giving.proofs.gains.Tie as tie
@@ -33,7 +34,7 @@ returns-2 c = let a = c .before .before .before .before .before .before .args in
     λ fires h.
     let e : at (a .fire .now) (c .before .source .result) ≡ oneIf (fires (source (a .t .now) (a .j))) =
     ap (at (a .fire .now)) (c .before .source .ensures .0) ∙ h .marked (source (a .t .now) (a .j)) (omega (arith, source-node (a .t .now) (c .before .before .before .before .before .before .pre .0) (a .j) (c .before .before .before .before .before .before .pre .1))) in
-    ap (λ x. eqb x 1) e ∙ one-if (fires (source (a .t .now) (a .j))) ∙ sym (rw k)
+    ap (λ x. eqb x 1) e ∙ flag-back (fires (source (a .t .now) (a .j))) ∙ sym (rw k)
 
 pub gains-spec : {M : Type 1} → statement M
 gains-spec =

@@ -8,8 +8,7 @@ use borrow.Author.Tests.{not-true, not-false}
 use lib.Dec.{leb}
 use Rattle.paper.specs.Table.{nodes, upper}
 use Rattle.giving.specs.Giving.{Amounts}
-use Rattle.paper.proofs.Lists.{below-all}
-use Rattle.marking.proofs.Laws.{all-fails}
+use Rattle.paper.proofs.Lists.{below-all, all-fails}
 use borrow.Author.Needs.{needs}
 use Rattle.giving.proofs.stocks_fit.Statement.{statement}
 use Rattle.giving.proofs.stocks_fit.Tie as tie

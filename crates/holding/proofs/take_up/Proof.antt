@@ -1,5 +1,4 @@
 -- `take_up`: what the reader noted is what is held. Assumes nothing.
-use mathlib.Core.Path.{_≡_, subst}
 use native.Mathlib.Omega.{arith}
 use Rattle.paper.specs.Marking.{marking}
 use Rattle.table.proofs.Reading.{read-spans, most-nodes, most-edges}

@@ -8,9 +8,8 @@ use borrow.Author.Tests.{not-true, not-false}
 use Rattle.paper.specs.Table.{edges}
 use Rattle.paper.specs.Marking.{Marking}
 use Rattle.marking.specs.Reading.{EdgesNoted, edgeClear}
-use Rattle.paper.proofs.Lists.{below-all}
+use Rattle.paper.proofs.Lists.{below-all, all-fails}
 use Rattle.table.proofs.Reading.{read-spans}
-use Rattle.marking.proofs.Laws.{all-fails}
 use borrow.Author.Needs.{needs}
 use Rattle.marking.proofs.reading.edges_clear.Statement.{statement}
 use Rattle.marking.proofs.reading.edges_clear.Tie as tie

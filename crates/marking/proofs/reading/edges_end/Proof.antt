@@ -1,12 +1,11 @@
 -- `edges_end` reads the counts in order and notes where each stands. Assumes nothing.
 use Rattle.table.proofs.Reading.{read-spans}
-use mathlib.Core.Bool.{false, Bool}
+use mathlib.Core.Bool.{false}
 use mathlib.Core.Option.{none}
 use Rattle.paper.specs.Marking.{blank, Marking, fieldsRead}
 use mathlib.Core.Path.{_∙_, _≡_}
 use lib.ListN.{length-set, drop, length}
 use Rattle.marking.specs.Reading.{Reads, EdgeNoted, edgeFields}
-use Rattle.marking.specs.declared.reading.Next.{Next}
 use Rattle.marking.specs.declared.reading.Next.the-variants.{At, Bad}
 use Prim.Native.Nat.{_≤_, _-_}
 use native.Mathlib.Omega.{arith}

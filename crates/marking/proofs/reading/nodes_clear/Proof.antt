@@ -8,9 +8,8 @@ use borrow.Author.Tests.{not-true, not-false}
 use Rattle.paper.specs.Table.{nodes}
 use Rattle.paper.specs.Marking.{Marking}
 use Rattle.marking.specs.Reading.{NodesNoted, nodeClear}
-use Rattle.paper.proofs.Lists.{below-all}
+use Rattle.paper.proofs.Lists.{below-all, all-fails}
 use Rattle.table.proofs.Reading.{read-spans}
-use Rattle.marking.proofs.Laws.{all-fails}
 use borrow.Author.Needs.{needs}
 use Rattle.marking.proofs.reading.nodes_clear.Statement.{statement}
 use Rattle.marking.proofs.reading.nodes_clear.Tie as tie

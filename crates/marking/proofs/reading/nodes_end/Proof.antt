@@ -5,7 +5,6 @@ use Rattle.paper.specs.Marking.{blank, Marking, nodeFields, fieldsRead}
 use mathlib.Core.Path.{_∙_, _≡_}
 use lib.ListN.{length-set, drop, length}
 use Rattle.marking.specs.Reading.{Reads, NodeNoted}
-use Rattle.marking.specs.declared.reading.Next.{Next}
 use Rattle.marking.specs.declared.reading.Next.the-variants.{At, Bad}
 use Prim.Native.Nat.{_≤_, _-_}
 use native.Mathlib.Omega.{arith}

@@ -8,9 +8,8 @@ use borrow.Author.Tests.{not-true, not-false}
 use Rattle.paper.specs.Table.{nodes}
 use Rattle.paper.specs.Marking.{Marking, pinFine}
 use Rattle.marking.specs.Reading.{NodesNoted}
-use Rattle.paper.proofs.Lists.{below-all}
+use Rattle.paper.proofs.Lists.{below-all, all-fails}
 use Rattle.table.proofs.Reading.{read-spans}
-use Rattle.marking.proofs.Laws.{all-fails}
 use borrow.Author.Needs.{needs}
 use Rattle.marking.proofs.reading.pins_fine.Statement.{statement}
 use Rattle.marking.proofs.reading.pins_fine.Tie as tie
