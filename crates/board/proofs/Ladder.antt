@@ -1,28 +1,25 @@
 -- Rows 5 to 8 of a good table, row by row: what the readers' answers make of the board. Assumes nothing.
 use Prim.Native.Nat.{ℕ, _≤_, _<_}
-use mathlib.Core.Path.{_≡_, refl, sym, ap, subst, _∙_}
-use mathlib.Core.Bool.{Bool, true, false, not, _&&_}
+use mathlib.Core.Path.{_≡_, refl, ap, _∙_}
+use mathlib.Core.Bool.{Bool, true, false, not}
 use mathlib.Core.List.{List}
-use native.Mathlib.Omega.{arith}
-use lib.Dec.{leb}
 use lib.ListN.{length}
 use borrow.Author.Tests.{le-leb, lt-leb}
 use Rattle.paper.specs.Lists.{below, gather}
 use Rattle.paper.specs.Limits.{limits}
-use Rattle.paper.specs.Answers.{Answer, refused, good, _>>=_, need}
-use Rattle.paper.specs.Table.{nodes, edges, isControlNode, kind, source}
+use Rattle.paper.specs.Answers.{refused, good, _>>=_, need}
+use Rattle.paper.specs.Table.{nodes, edges, source}
 use Rattle.paper.specs.Marking.{Marking, marking, Good as GoodMarking}
-use Rattle.paper.specs.Offers.{Offer, first, elem, goesOver, guardsFine, offers, offersOn, ends, sizesFine}
+use Rattle.paper.specs.Offers.{Offer, elem, goesOver, guardsFine, offers, ends, sizesFine}
 use Rattle.paper.specs.Choices.{Board, board, boardOf}
-use Rattle.paper.proofs.Bools.{and-true, and-both, and-never, iff}
-use Rattle.paper.proofs.Members.{In, in-gather, gather-in, in-below, below-in}
+use Rattle.paper.proofs.Bools.{and-both, and-never, iff}
+use Rattle.paper.proofs.Members.{in-gather, gather-in, in-below, below-in}
 use Rattle.paper.proofs.Sameness.{elem-in, in-elem}
 use Rattle.table.specs.declared.Table.{Table}
 use Rattle.table.specs.Reading.{tableRead}
 use Rattle.table.proofs.Reading.{read-fine, read-good}
 use Rattle.marking.specs.declared.reading.MarkingAnswer.{MarkingAnswer}
 use Rattle.marking.specs.declared.reading.MarkingAnswer.the-variants.{Ended, Refused as NoMarking}
-use Rattle.rows.specs.Sets.{nth}
 use Rattle.rows.specs.Rows.{Rows, fine}
 use Rattle.flow.specs.Stages.{Input, Whole, onEdge}
 use Rattle.flow.specs.Struct.{rowsOf, Full}
@@ -33,7 +30,6 @@ use Rattle.holding.proofs.TakenUp.{refused-read, ended-read}
 use Rattle.ends.specs.declared.EndsAnswer.{EndsAnswer}
 use Rattle.ends.specs.declared.EndsAnswer.the-variants.{Good, Refused}
 use Rattle.ends.specs.Ends.{Listed, Arranged}
-use Rattle.seating.specs.Seating.{Seated}
 use Rattle.flow.specs.declared.Offers.{Offers}
 use Rattle.board.specs.Starts.{Begun}
 use Rattle.board.specs.Reading.{Seats, Laid, BoardRead}
@@ -93,17 +89,18 @@ module _ (t b g : List ℕ) {x : Table} (e : tableRead t ≡ good x) where
           (λ h. let k = in-gather (onEdge t g (l .current)) (w .order) (elem-in _ h) in in-elem (gather-in (onEdge t g (l .current)) (below-in (edges t) (w .only-edges (k .0) (k .1))) (k .2)))
           (λ h. let k = in-gather (onEdge t g (l .current)) (below (edges t)) (elem-in _ h) in in-elem (gather-in (onEdge t g (l .current)) (w .all-edges (k .0) (in-below (edges t) (k .1))) (k .2)))
 
-      pub board-laid : (o : Offers) → Full o → (z : Seats) (n : ℕ) (a c : List ℕ) (w : Whole t (l .current) g (rowsOf o) a c)
+      pub board-laid : (o : Offers) (links : List ℕ) → Full o → (z : Seats) (n : ℕ) (a c : List ℕ) (w : Whole t (l .current) g (rowsOf o links) a c)
           → Listed (gather (onEdge t g (l .current)) (w .order)) (ends t os) (z .ends) (z .order) (z .lens) (z .cells) n → Laid t b g o y z n
-      board-laid o full z n a c w s = record {
+      board-laid o links full z n a c w s = record {
         on = theBoard;
         trees = gather (onEdge t g (l .current)) (w .order);
         is-board = board-is (w .sizes) (rw (s .number) at (s .few));
         full = full;
+        links = links;
         seated = record {
           table-is = refl;
           holds-ts = w .holds-ts;
-          offers-are = same-offers (rowsOf o) a c w;
+          offers-are = same-offers (rowsOf o links) a c w;
           number = s .number;
           few = s .few;
           inside = s .inside;
@@ -114,10 +111,10 @@ module _ (t b g : List ℕ) {x : Table} (e : tableRead t ≡ good x) where
       }
 
       -- the ends' answer is the board's
-      pub board-read : (o : Offers) → Full o → (z : Seats) (r : EndsAnswer) (a c : List ℕ) (w : Whole t (l .current) g (rowsOf o) a c)
+      pub board-read : (o : Offers) (links : List ℕ) → Full o → (z : Seats) (r : EndsAnswer) (a c : List ℕ) (w : Whole t (l .current) g (rowsOf o links) a c)
           → Arranged r (gather (onEdge t g (l .current)) (w .order)) (ends t os) (z .ends) (z .order) (z .lens) (z .cells) → BoardRead t b g o y z r
-      board-read o full z (Good n) a c w h = board-laid o full z n a c w h
-      board-read o full z (Refused n p) a c w h = rw (h .0, h .1 .0) (board-8-ends (h .1 .1))
+      board-read o links full z (Good n) a c w h = board-laid o links full z n a c w h
+      board-read o links full z (Refused n p) a c w h = rw (h .0, h .1 .0) (board-8-ends (h .1 .1))
 
 -- a refusal is the board's
 pub refused-board : (t b g : List ℕ) (o : Offers) (y : Held) (z : Seats) (r : EndsAnswer) (n p : ℕ) → r ≡ Refused n p → board t b g ≡ refused n p → BoardRead t b g o y z r

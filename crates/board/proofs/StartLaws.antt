@@ -1,19 +1,17 @@
 -- First offers: a code and a value for each edge are what the definition says of the marking that the slices hold. Assumes nothing.
 use Prim.Native.Nat.{ℕ, zero, suc, _+_, _*_, _-_, _^_, _≤_, _<_}
-use mathlib.Core.Path.{_≡_, refl, sym, ap, subst, _∙_}
+use mathlib.Core.Path.{_≡_, refl, sym, subst, _∙_}
 use mathlib.Core.Bool.{Bool, true, false, cond}
-use mathlib.Core.List.{List, [], _∷_, _++_}
-use mathlib.Core.Option.{Option, none, some}
+use mathlib.Core.List.{List, [], _∷_}
 use native.Mathlib.Omega.{arith}
-use lib.Dec.{eqb, leb, ltb}
-use lib.ListN.{length, take, drop, set}
-use borrow.Author.Tests.{le-leb, lt-leb, eq-eqb, ne-eqb}
-use Rattle.paper.specs.Lists.{at, gather}
-use Rattle.paper.specs.Limits.{limits}
+use lib.Dec.{eqb, ltb}
+use lib.ListN.{length, drop, set}
+use borrow.Author.Tests.{le-leb, ne-eqb}
+use Rattle.paper.specs.Lists.{at}
 use Rattle.paper.specs.Bytes.{four}
-use Rattle.paper.specs.Table.{nodes, edges, kind, source, isObjectNode, isControlNode}
-use Rattle.paper.specs.Marking.{Marking, Good, counted, hasStock, stockOf}
-use Rattle.paper.specs.Offers.{Offer, first, firsts}
+use Rattle.paper.specs.Table.{nodes, edges, kind, source, isObjectNode}
+use Rattle.paper.specs.Marking.{Marking, Good, counted, stockOf}
+use Rattle.paper.specs.Offers.{firsts}
 use Rattle.paper.proofs.Bools.{and-never}
 use Rattle.paper.proofs.Bytes.{four-back}
 use Rattle.paper.proofs.Lengths.{drop-four}

@@ -1,4 +1,3 @@
 -- What a board is read from, and what is read.
 pub mod Starts
-pub mod Guards
 pub mod Reading

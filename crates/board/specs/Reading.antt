@@ -32,13 +32,14 @@ pub record SeatsRoom (s : Seats) : Type 0 where
   pub lens-room : 160 ≤ length (s .lens)
   pub cells-room : 2560 ≤ length (s .cells)
 
--- the board of n ends
+-- the board of n ends; its offers are the rows of o and the links that their paths go on from
 pub record Laid (t b g : List ℕ) (o : Offers) (x : Held) (s : Seats) (n : ℕ) : Type 0 where
   pub on : Board
   pub trees : List Offer
   pub is-board : board t b g ≡ good on
   pub full : Full o
-  pub seated : Seated t on (rowsOf o) trees (s .ends) n
+  pub links : List ℕ
+  pub seated : Seated t on (rowsOf o links) trees (s .ends) n
   pub listed : Listed trees (on .allEnds) (s .ends) (s .order) (s .lens) (s .cells) n
   pub holding : Holding t b (on .current) x
 

@@ -1,11 +1,8 @@
 // Rows 5 to 8: a marking and guards read, the offers built and the ends put in order.
 // Functions that read a table's fields require that its bytes were read as a table.
-mod guards;
 mod reading;
 mod starts;
 
-pub use guards::GuardsAnswer;
-pub use guards::read_guards;
 pub use reading::Board;
 pub use reading::read;
 pub use starts::first_offers;

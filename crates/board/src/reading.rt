@@ -1,10 +1,9 @@
 // Rows 5 to 8: the board of a marking and guards, in lent slices but for the offers.
-use super::guards::GuardsAnswer;
-use super::guards::read_guards;
 use super::starts::first_offers;
 use ends::EndsAnswer;
 use flow::Built;
 use flow::Offers;
+use guards::GuardsAnswer;
 use marking::MarkingAnswer;
 use table::Table;
 ghost use mathlib.Core.Path.{_≡_};
@@ -45,7 +44,6 @@ fn none() -> Offers
         parents: [0; 64],
         makers: [0; 64],
         foes: [0; 64],
-        before: [0; 512],
         count: 0,
     }
 }
@@ -60,7 +58,7 @@ fn refused(number: u8, place: u8) -> Board
     }
 }
 
-// The offers of what is held.
+// The offers of what is held; `links` gets what their paths go on from.
 fn offered(
     t: &[u8],
     table: Table,
@@ -69,42 +67,43 @@ fn offered(
     from: &[usize],
     kept: &[u8],
     tokens: &[u8],
+    links: &mut [u16],
 ) -> Built
-    requires { ⌜ (tableRead (now t) ≡ good table) × (edges (now t) ≤ length (now g)) × (nodes (now t) ≤ length (now from)) × (nodes (now t) ≤ length (now kept)) × (edges (now t) ≤ length (now tokens)) ⌝ }
-    ensures { λ r. ⌜ (Ranges (r .from) (r .to) 64 × Full (r .offers)) × ((m : Marking) (runs : List ℕ) → Good (now (t .entry)) m → Holding (now (t .entry)) (now (b .entry)) m (held (now (from .entry)) (now (kept .entry)) runs (now (tokens .entry))) → Result (now (t .entry)) m (now (g .entry)) (rowsOf (r .offers)) (r .ok) (r .from) (r .to)) ⌝ }
+    requires { ⌜ (tableRead (now t) ≡ good table) × (edges (now t) ≤ length (now g)) × (nodes (now t) ≤ length (now from)) × (nodes (now t) ≤ length (now kept)) × (edges (now t) ≤ length (now tokens)) × (512 ≤ length (now links)) ⌝ }
+    ensures { λ r. ⌜ (Ranges (r .from) (r .to) 64 × Full (r .offers)) × ((m : Marking) (runs : List ℕ) → Good (now (t .entry)) m → Holding (now (t .entry)) (now (b .entry)) m (held (now (from .entry)) (now (kept .entry)) runs (now (tokens .entry))) → Result (now (t .entry)) m (now (g .entry)) (rowsOf (r .offers) (now (links .exit))) (r .ok) (r .from) (r .to)) ⌝ }
 {
     let mut codes = [0u8; Table::MOST_EDGES];
     let mut values = [0u32; Table::MOST_EDGES];
     first_offers(t, table, b, from, kept, tokens, &mut codes, &mut values);
-    flow::build(t, table, g, &codes, &values)
+    flow::build(t, table, g, &codes, &values, links)
 }
 
-// The ends of these offers, of which each edge has those from `low` to `high`.
+// The ends of what was built, where the offers' paths go on from `links`.
 fn arranged(
     t: &[u8],
     table: Table,
-    offers: Offers,
-    low: &[u8],
-    high: &[u8],
+    built: Built,
+    links: &[u16],
     ends: &mut [u8],
     order: &mut [u8],
     lens: &mut [u8],
     cells: &mut [u8],
 ) -> EndsAnswer
-    requires { ⌜ (tableRead (now t) ≡ good table) × Full offers × ((64 ≤ length (now low)) × (64 ≤ length (now high)) × Ranges (now low) (now high) 64) × SeatsRoom (seats (now ends) (now order) (now lens) (now cells)) ⌝ }
-    ensures { λ r. ⌜ ((m : Marking) (g : List ℕ) (y : Whole (now (t .entry)) m g (rowsOf offers) (now (low .entry)) (now (high .entry))) → Arranged r (gather (onEdge (now (t .entry)) g m) (y .order)) (endsOf (now (t .entry)) (offersOf (now (t .entry)) (goesOver g) m)) (now (ends .exit)) (now (order .exit)) (now (lens .exit)) (now (cells .exit))) ⌝ }
+    requires { ⌜ (tableRead (now t) ≡ good table) × Full (built .offers) × (512 ≤ length (now links)) × Ranges (built .from) (built .to) 64 × SeatsRoom (seats (now ends) (now order) (now lens) (now cells)) ⌝ }
+    ensures { λ r. ⌜ ((m : Marking) (g : List ℕ) (y : Whole (now (t .entry)) m g (rowsOf (built .offers) (now (links .entry))) (built .from) (built .to)) → Arranged r (gather (onEdge (now (t .entry)) g m) (y .order)) (endsOf (now (t .entry)) (offersOf (now (t .entry)) (goesOver g) m)) (now (ends .exit)) (now (order .exit)) (now (lens .exit)) (now (cells .exit))) ⌝ }
 {
-    let last = offers.last;
-    let many = offers.paths;
-    let links = offers.before;
+    let last = built.offers.last;
+    let many = built.offers.paths;
+    let low = built.from;
+    let high = built.to;
     ends::arrange(
         t,
         table,
         &last,
         &many,
-        &links,
-        low,
-        high,
+        links,
+        &low,
+        &high,
         ends,
         order,
         lens,
@@ -129,14 +128,13 @@ fn seat(
     requires { ⌜ ((tableRead (now t) ≡ good table) × (edges (now t) ≤ length (now g)) × (nodes (now t) ≤ length (now from)) × (nodes (now t) ≤ length (now kept)) × (edges (now t) ≤ length (now tokens))) × SeatsRoom (seats (now ends) (now order) (now lens) (now cells)) ⌝ }
     ensures { λ r. ⌜ ((runs : List ℕ) → LiveHeld (now (t .entry)) (now (b .entry)) (held (now (from .entry)) (now (kept .entry)) runs (now (tokens .entry))) → guardsFine (now (t .entry)) (now (g .entry)) ≡ true → BoardRead (now (t .entry)) (now (b .entry)) (now (g .entry)) (r .offers) (held (now (from .entry)) (now (kept .entry)) runs (now (tokens .entry))) (seats (now (ends .exit)) (now (order .exit)) (now (lens .exit)) (now (cells .exit))) (r .answer)) ⌝ }
 {
-    let built = offered(t, table, b, g, from, kept, tokens);
+    let mut links = [0u16; 512];
+    let built = offered(t, table, b, g, from, kept, tokens, &mut links);
     if !built.ok {
         return refused(8, 0);
     }
-    let low = built.from;
-    let high = built.to;
+    let answer = arranged(t, table, built, &links, ends, order, lens, cells);
     let offers = built.offers;
-    let answer = arranged(t, table, offers, &low, &high, ends, order, lens, cells);
     Board {
         offers: offers,
         answer: answer,
@@ -166,7 +164,7 @@ pub fn read(
         MarkingAnswer::Ended => return refused(6, 0),
         MarkingAnswer::Refused(number, place) => return refused(number, place),
     }
-    if let GuardsAnswer::Refused(number, place) = read_guards(t, table, g) {
+    if let GuardsAnswer::Refused(number, place) = guards::read(t, table, g) {
         return refused(number, place);
     }
     seat(t, table, b, g, from, kept, tokens, ends, order, lens, cells)

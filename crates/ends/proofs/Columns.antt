@@ -1,4 +1,4 @@
--- The lent columns are those of the struct that the offers were built in. Assumes nothing.
+-- The lent columns are those of the struct that the offers were built in, and the links beside it. Assumes nothing.
 use mathlib.Core.Path.{refl}
 use mathlib.Core.List.{List}
 use Prim.Native.Nat.{ℕ, _≤_}
@@ -8,8 +8,8 @@ use Rattle.flow.specs.Struct.{rowsOf}
 use Rattle.flow.specs.declared.Offers.{Offers}
 use Rattle.paths.specs.Blocks.{Seen}
 
-pub seen-struct : (o : Offers) → Seen (rowsOf o) (o .last) (o .paths) (o .before)
-seen-struct o = record { lasts = λ i. refl; numbers = λ i. refl; befores = λ i k. refl }
+pub seen-struct : (o : Offers) (links : List ℕ) → Seen (rowsOf o links) (o .last) (o .paths) links
+seen-struct o links = record { lasts = λ i. refl; numbers = λ i. refl; befores = λ i k. refl }
 
 -- parts of a list of c offers are parts of a longer one
 pub ranges-more : (a b : List ℕ) (c d : ℕ) → c ≤ d → Ranges a b c → Ranges a b d

@@ -9,10 +9,10 @@ use lib.Seq.{getD-set-same, getD-set-other}
 use Rattle.paper.specs.Lists.{at, from, below, gather}
 use Rattle.paper.specs.Table.{edges, kind, target, isControlNode}
 use Rattle.paper.proofs.Lists.{below-more, below-split}
-use Rattle.paper.proofs.Lengths.{length-from}
+use Rattle.paper.proofs.Lengths.{length-from, gather-append}
 use Rattle.paper.proofs.Members.{In, in-none, in-gather}
 use Rattle.rows.specs.Rows.{Ranges}
-use Rattle.rows.proofs.Segments.{gather-append, gather-snoc}
+use Rattle.rows.proofs.Segments.{gather-snoc}
 use Rattle.paths.specs.Blocks.{run}
 use Rattle.paths.proofs.Runs.{run-split, run-same}
 use Rattle.paths.proofs.Walks.{length-run}

@@ -14,10 +14,11 @@ use Rattle.paper.specs.Offers.{Offer, first, lastEdge, paths, goesOver, offers,
 use Rattle.paper.proofs.Members.{In, here, later, in-none, in-gather, in-below, keep-none}
 use Rattle.paper.proofs.Sameness.{on-last}
 use Rattle.paper.proofs.Fuel.{path-short}
+use Rattle.paper.proofs.Lists.{keep-append}
 use Rattle.rows.specs.Sets.{nth}
 use Rattle.rows.specs.Rows.{Rows, Row}
 use Rattle.flow.specs.Stages.{onEdge, Whole}
-use Rattle.rows.proofs.Segments.{each-append, keep-append, seg-nth, seg-len}
+use Rattle.rows.proofs.Segments.{each-append, seg-nth, seg-len}
 use Rattle.paths.specs.Blocks.{Seen, run, pathIn, byPath, Tame, Back, pathsOf}
 use Rattle.paths.proofs.Insertion.{run-in, in-from}
 use Rattle.paths.proofs.Slots.{paths-under}

@@ -1,4 +1,4 @@
--- The struct Offers, seen as rows. Assumes nothing.
+-- The struct Offers and the list beside it, seen as rows. Assumes nothing.
 use mathlib.Core.Path.{_≡_}
 use Prim.Native.Nat.{ℕ, _+_, _*_, _/_, _%_, _<_}
 use mathlib.Core.List.{List}
@@ -6,12 +6,13 @@ use lib.ListN.{length, getD}
 use Rattle.rows.specs.Rows.{Rows, entryOf}
 use Rattle.flow.specs.declared.Offers.{Offers}
 
-abbrev pub rowsOf : Offers → Rows
-rowsOf o = record {
+-- links: what the paths go on from, eight cells for each row
+abbrev pub rowsOf : Offers → List ℕ → Rows
+rowsOf o links = record {
   entry = λ i.
       entryOf (getD (o .last) i 0) (getD (o .node) i 0) (getD (o .has) i 0) (getD (o .value) i 0) (getD (o .paths) i 0)
       (getD (o .parents) i 0) (getD (o .makers) i 0) (getD (o .foes) i 0);
-  before = λ i k. getD (o .before) (8 * i + k) 0;
+  before = λ i k. getD links (8 * i + k) 0;
   count = o .count;
 }
 
@@ -26,7 +27,10 @@ pub record Copied (m : List ℕ) (c : ℕ) (o : Offers) : Type 0 where
   pub parents-are : (i : ℕ) → i < c → getD (o .parents) i 0 ≡ getD m (16 * i + 5) 0
   pub makers-are : (i : ℕ) → i < c → getD (o .makers) i 0 ≡ getD m (16 * i + 6) 0
   pub foes-are : (i : ℕ) → i < c → getD (o .foes) i 0 ≡ getD m (16 * i + 7) 0
-  pub befores : (x : ℕ) → x < 8 * c → getD (o .before) x 0 ≡ getD m (16 * (x / 8) + 8 + x % 8) 0 % 65536
+
+-- links is what the paths of the first c rows in the cells m go on from, cut to its width
+abbrev pub Linked : List ℕ → ℕ → List ℕ → Type 0
+Linked m c links = (x : ℕ) → x < 8 * c → getD links x 0 ≡ getD m (16 * (x / 8) + 8 + x % 8) 0 % 65536
 
 -- the arrays have the lengths that they are declared with, which their types as lists don't say
 pub record Full (o : Offers) : Type 0 where
@@ -38,4 +42,3 @@ pub record Full (o : Offers) : Type 0 where
   pub parents-full : length (o .parents) ≡ 64
   pub makers-full : length (o .makers) ≡ 64
   pub foes-full : length (o .foes) ≡ 64
-  pub befores-full : length (o .before) ≡ 512

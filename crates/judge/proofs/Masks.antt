@@ -1,7 +1,7 @@
 -- What masks of ends and words of rows say: ends are counted by the ones of mask and choice. Then searches for the lowest place, and tests that
 -- are asked only where they apply. Assumes nothing.
 use mathlib.Core.Path.{_≡_, refl, sym, ap, ap₂, _∙_}
-use mathlib.Core.Bool.{Bool, true, false, not, _&&_, _||_, cond, and-comm}
+use mathlib.Core.Bool.{Bool, true, false, not, _&&_, cond, and-comm}
 use mathlib.Core.List.{List, [], _∷_}
 use mathlib.Core.Option.{none, some}
 use Prim.Native.Nat.{ℕ, _≤_, _<_}
@@ -11,14 +11,13 @@ use lib.Count.{ones}
 use borrow.Author.Tests.{eq-eqb, ne-eqb, not-true, not-false}
 use Rattle.paper.specs.Lists.{at, has, below, all, any, keep, count, _⇒_}
 use Rattle.paper.specs.Table.{nodes, edges, kind, owner, target, into, inputs, isInput, isFork}
-use Rattle.paper.proofs.Bools.{never, false-if}
-use Rattle.paper.proofs.Lists.{all-below, below-all, lowest-none, lowest-some}
+use Rattle.paper.proofs.Lists.{all-below, below-all, lowest-none, lowest-some, all-fails}
 use Rattle.paper.proofs.Counts.{count-below-same, count-most}
 use Rattle.net.specs.Net.{inBoth, held, meets}
 use Rattle.net.proofs.Sets.{held-word, meets-word}
 use Rattle.table.proofs.Reading.{fails-at, fails-nowhere}
 use Rattle.rows.specs.Sets.{Marks}
-use Rattle.seating.specs.Seating.{rival, rivalled, apart, siblings, makes, kept, passed, forks, seats, served, fits, homes}
+use Rattle.seating.specs.Seating.{rival, rivalled, apart, siblings, makes, kept, passed, forks, seats, fits, homes}
 use Rattle.seating.proofs.Numbers.{any-below-alike, all-below-alike, lowest-alike}
 use Rattle.judge.specs.Judging.{keptIn, passedIn, forksIn}
 
@@ -92,9 +91,6 @@ all-keep p q (x ∷ xs) = by (q x) (all-keep p q xs)
     by false e = e
 
 -- one that fails, and none
-all-fails : (p : ℕ → Bool) (n k : ℕ) → k < n → p k ≡ false → all p (below n) ≡ false
-all-fails p n k l e = false-if _ (λ h. never (p k) (all-below p n h k l) e)
-
 module _ (t : List ℕ) (i : ℕ) (p : ℕ → Bool) where
   pub into-fails : (e : ℕ) → e < edges t → eqb (target t e) i ⇒ p e ≡ false → all p (into t i) ≡ false
   unfolding into

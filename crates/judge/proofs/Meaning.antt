@@ -11,8 +11,8 @@ use Rattle.seating.specs.Seating.{Seated, Columns}
 use Rattle.seating.proofs.Rules.{Told, rule1-rows, rule2-rows, rule3-rows}
 use Rattle.judge.specs.Judging.{rowRules}
 
-pub judged-rows : (t : List ℕ) (d : Board) (o : Offers) (ts : List Offer) (ends : List ℕ) (n c : ℕ) → Seated t d (rowsOf o) ts ends n
+pub judged-rows : (t : List ℕ) (d : Board) (o : Offers) (links : List ℕ) (ts : List Offer) (ends : List ℕ) (n c : ℕ) → Seated t d (rowsOf o links) ts ends n
     → (edge target home : List ℕ) → Columns t (o .last) ends edge target home n → (runs stock : List ℕ) → Told t (d .current) runs stock
     → judgedBy (rules d) c ≡ judgedBy (rowRules t (o .node) (o .parents) (o .makers) (o .foes) ends edge target home runs stock (o .count) n) c
-judged-rows t d o ts ends n c s edge target home k runs stock m =
-    rw (rule1-rows t d o ts ends n c s, rule2-rows t d o ts ends n c s, rule3-rows t d o ts ends n c s edge target home k runs stock m)
+judged-rows t d o links ts ends n c s edge target home k runs stock m =
+    rw (rule1-rows t d o links ts ends n c s, rule2-rows t d o links ts ends n c s, rule3-rows t d o links ts ends n c s edge target home k runs stock m)

@@ -239,19 +239,12 @@ fn action_agrees(
     action_fits(t, table, edge, target, n, runs, c, i)
 }
 
-// Whether a node of kind k is a buffer or an outgoing parameter.
-fn is_store(k: usize) -> bool
-    ensures { λ r. ⌜ r ≡ isBuffer k || isOutgoing k ⌝ }
-{
-    k == Table::BUFFER || k == Table::OUTGOING
-}
-
 // If node i is a buffer or an outgoing parameter, what is taken fits beside its stock before the step.
 fn has_room(t: &[u8], table: Table, target: &[u8], n: usize, stock: &[u8], c: u32, i: usize) -> bool
     requires { ⌜ Spans (now t) table × (i < table .nodes) × (i < length (now stock)) × (n ≤ length (now target)) × (n ≤ 20) ⌝ }
     ensures { λ r. ⌜ r ≡ isBuffer (kind (now (t .entry)) i) || isOutgoing (kind (now (t .entry)) i) ⇒ leb (at (now (stock .entry)) i + seats (now (target .entry)) n c i) (upper (now (t .entry)) i) ⌝ }
 {
-    if !is_store(table.kind(t, i)) {
+    if !table::is_store(table.kind(t, i)) {
         return true;
     }
     let k = seated(target, n, c, i);

@@ -1,13 +1,14 @@
 -- What finish answers, row by row: of the table, of the marking that was read, of an action that runs in it, and what is then delivered. Assumes nothing.
-use mathlib.Core.Path.{_≡_, refl}
+use mathlib.Core.Path.{_≡_}
 use mathlib.Core.Bool.{true}
 use mathlib.Core.List.{List}
 use Prim.Native.Nat.{ℕ}
 use lib.Dec.{eqb}
-use Rattle.paper.specs.Answers.{Answer, refused, good, _>>=_, need}
+use Rattle.paper.specs.Answers.{refused, good, need}
 use Rattle.paper.specs.Table.{outputs}
-use Rattle.paper.specs.Marking.{encode, marking}
+use Rattle.paper.specs.Marking.{marking}
 use Rattle.paper.specs.Operations.{idled, finishOf, finish}
+use Rattle.paper.proofs.Ladders.{need-refused}
 use Rattle.table.specs.declared.Table.{Table}
 use Rattle.table.specs.Reading.{tableRead}
 use Rattle.table.proofs.Reading.{read-refused, read-fine}
@@ -18,7 +19,6 @@ use Rattle.holding.specs.Holding.{HeldRead}
 use Rattle.holding.specs.TakenUp.{Held, LiveHeld}
 use Rattle.giving.specs.Giving.{giveOf}
 use Rattle.holding.proofs.TakenUp.{refused-read, ended-read}
-use Rattle.board.proofs.NeedLaws.{need-refused}
 use Rattle.delivering.specs.Delivered.{delivered}
 use Rattle.delivering.specs.Running.{runsIn}
 

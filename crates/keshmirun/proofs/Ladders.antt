@@ -1,6 +1,6 @@
 -- The operations' ladders, row by row: what each answers after its table, its marking and its lists were read. Assumes nothing.
-use mathlib.Core.Path.{_≡_, refl, sym, ap, _∙_}
-use mathlib.Core.Bool.{Bool, true, false, _&&_, cond}
+use mathlib.Core.Path.{_≡_, refl, sym, ap}
+use mathlib.Core.Bool.{Bool, true, false, _&&_}
 use mathlib.Core.List.{List, []}
 use Prim.Native.Nat.{ℕ, _<_}
 use lib.ListN.{length}
@@ -9,9 +9,9 @@ use lib.Dec.{eqb}
 use borrow.Author.Tests.{eqb-true}
 use Rattle.paper.specs.Lists.{below, keep}
 use Rattle.paper.specs.Limits.{limits}
-use Rattle.paper.specs.Answers.{Answer, refused, good, _>>=_}
+use Rattle.paper.specs.Answers.{refused, good}
 use Rattle.paper.specs.Table.{nodes, kind, owner, isIncoming, isObjectNode}
-use Rattle.paper.specs.Marking.{Marking, blank, encode}
+use Rattle.paper.specs.Marking.{blank}
 use Rattle.paper.specs.Operations.{check, startOf, start, inRoom, Reply, Leaves, Only}
 use Rattle.paper.proofs.Bools.{and-true}
 use Rattle.paper.proofs.Lists.{keep-same}

@@ -4,9 +4,9 @@ use mathlib.Core.List.{List}
 use Prim.Native.Nat.{ℕ, _+_, _^_, _≤_, _<_}
 use native.Mathlib.Omega.{arith}
 use lib.ListN.{length}
-use Rattle.paper.specs.Answers.{Answer, refused, good, _>>=_}
+use Rattle.paper.specs.Answers.{refused, good}
 use Rattle.paper.specs.Choices.{board}
-use Rattle.paper.specs.Operations.{sheet, sheetBytes, step, PickOn, Pick, packed, inRoom, Reply, Leaves, Only}
+use Rattle.paper.specs.Operations.{sheet, step, PickOn, Pick, packed, inRoom, Reply, Leaves}
 use Rattle.table.specs.Reading.{tableRead}
 use Rattle.flow.specs.declared.Offers.{Offers}
 use Rattle.holding.specs.TakenUp.{Held}
@@ -43,7 +43,7 @@ module _ (t b g ks : List ℕ) where
         rw e
         (record {
           answer = good (sheetShown (o .last) (o .has) (o .value) (o .paths) (s .ends) (s .order) (s .lens) (s .cells) n);
-          allowed = sym (rw (l .is-board, sheet-shown t o (l .trees) (l .on .allEnds) (s .ends) (s .order) (s .lens) (s .cells) n room (l .seated .holds-ts) (l .listed)));
+          allowed = sym (rw (l .is-board, sheet-shown t o (l .links) (l .trees) (l .on .allEnds) (s .ends) (s .order) (s .lens) (s .cells) n room (l .seated .holds-ts) (l .listed)));
           reply = h;
         })
 
@@ -72,7 +72,7 @@ module _ {t b g : List ℕ} {o : Offers} {x : Held} {s : Seats} {n : ℕ} (l : L
   pub laid-shows : Shows (o .last) (o .has) (o .value) (o .paths) (s .ends) (s .order) (s .lens) (s .cells) n
   laid-shows = record {
     measured =
-        listed-measured t o (l .trees) (l .on .allEnds) (s .ends) (s .order) (s .lens) (s .cells) n (r .cells-room) (l .seated .holds-ts) (l .listed)
+        listed-measured t o (l .links) (l .trees) (l .on .allEnds) (s .ends) (s .order) (s .lens) (s .cells) n (r .cells-room) (l .seated .holds-ts) (l .listed)
         (omega (arith, l .seated .few, r .ends-room)) (omega (arith, l .full .paths-full)) (r .order-room) (r .lens-room);
     lasts = omega (arith, l .full .lasts-full);
     flags = omega (arith, l .full .haves-full);

@@ -101,10 +101,10 @@ pub fn ask(
     let mut kept = [0u8; Table::MOST_NODES];
     let mut runs = [0u8; Table::MOST_NODES];
     let mut tokens = [0u8; Table::MOST_EDGES];
-    let mut ends = [0u8; 20];
-    let mut order = [0u8; 160];
-    let mut lens = [0u8; 160];
-    let mut cells = [0u8; 2560];
+    let mut ends = [0u8; ends::MOST_ENDS];
+    let mut order = [0u8; paths::BLOCKS];
+    let mut lens = [0u8; paths::BLOCKS];
+    let mut cells = [0u8; paths::CELLS];
     let board = board::read(
         t,
         table,

@@ -1,13 +1,13 @@
 -- What the columns show is the paper's sheet of the ends. Assumes nothing.
 use Prim.Native.Nat.{ℕ, _+_, _*_, _-_, _≤_, _<_}
-use mathlib.Core.Path.{_≡_, refl, sym, ap, ap₂, subst, _∙_}
-use mathlib.Core.Bool.{Bool, true, false, cond}
+use mathlib.Core.Path.{_≡_, refl, sym, ap, ap₂, _∙_}
+use mathlib.Core.Bool.{Bool, true, false}
 use mathlib.Core.List.{List, [], _∷_, _++_}
 use native.Mathlib.Omega.{arith}
 use lib.Dec.{eqb}
-use lib.ListN.{length, getD, take, drop}
+use lib.ListN.{length, getD}
 use Rattle.paper.specs.Lists.{at, below, each, gather}
-use Rattle.paper.specs.Offers.{Offer, first, lastEdge, value, paths, lex, sortedPaths}
+use Rattle.paper.specs.Offers.{Offer, first, value, paths, lex, sortedPaths}
 use Rattle.paper.specs.Operations.{valueBytes, endBytes, sheetBytes}
 use Rattle.paper.proofs.Lengths.{each-below, gather-each}
 use Rattle.paper.proofs.Orders.{sort-length}
@@ -17,7 +17,7 @@ use Rattle.rows.specs.Rows.{Holds, valueOf}
 use Rattle.flow.specs.declared.Offers.{Offers}
 use Rattle.flow.specs.Struct.{rowsOf}
 use Rattle.ends.specs.Ends.{Stored, Listed}
-use Rattle.listing.specs.Listing.{valueShown, pathShown, pathOf, endShown, sheetShown, Measured, Shows}
+use Rattle.listing.specs.Listing.{valueShown, pathShown, pathOf, endShown, sheetShown, Measured}
 use Prim.Native.Nat.{compare}
 use mathlib.Core.Option.{none}
 
@@ -45,7 +45,7 @@ gather-places {A} a f xs g h =
     gather-same g (λ k. f (getD xs k a)) (length xs) h ∙ sym (gather-each f (λ (k : ℕ). getD xs k a) (below (length xs)))
     ∙ ap (gather f) (each-below a (λ k. getD xs k a) xs (λ k l. refl))
 
-module _ (t : List ℕ) (o : Offers) (ts es : List Offer) (rows order lens cells : List ℕ) (n : ℕ) (room : 2560 ≤ length cells) (h : Holds t (rowsOf o) ts) (s : Listed ts es rows order lens cells n) where
+module _ (t : List ℕ) (o : Offers) (links : List ℕ) (ts es : List Offer) (rows order lens cells : List ℕ) (n : ℕ) (room : 2560 ≤ length cells) (h : Holds t (rowsOf o links) ts) (s : Listed ts es rows order lens cells n) where
   paths-shown : (k : ℕ) → k < n → gather (pathOf order lens cells k) (below (length (paths (nth ts (at rows k))))) ≡ gather pathBytes (sortedPaths (nth ts (at rows k)))
   unfolding sortedPaths
   paths-shown k l =

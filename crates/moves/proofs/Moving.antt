@@ -1,6 +1,6 @@
 -- What the parts of the step come to: the slices describe the paper's next marking. Assumes nothing.
 use mathlib.Core.Path.{_≡_, refl, sym, ap, ap₂, _∙_}
-use Prim.Native.Nat.{ℕ, zero, suc, _+_, _-_, _*_, _≤_, _<_}
+use Prim.Native.Nat.{ℕ, _+_, _-_, _*_, _≤_, _<_}
 use native.Mathlib.Omega.{arith}
 use mathlib.Core.Bool.{Bool, true, false, not, _&&_, _||_, cond}
 use mathlib.Core.List.{List, [], _∷_, _++_}
@@ -9,7 +9,7 @@ use lib.Dec.{leb, eqb}
 use lib.ListN.{length, take, drop, length-append, length-drop}
 use lib.Seq.{drop-at, take-add, drop-drop, length-take-le}
 use borrow.Author.Tests.{le-leb, lt-leb, lt-ltb}
-use Rattle.paper.specs.Lists.{at, from as fromOn, has, below, any, keep, each, gather, oneIf}
+use Rattle.paper.specs.Lists.{at, has, below, any, keep, each, gather, oneIf}
 use Rattle.paper.specs.Bytes.{four}
 use Rattle.paper.specs.Limits.{limits}
 use Rattle.paper.specs.Table.{nodes, edges, kind, upper, out, isObjectNode, isAction, isOutgoing, isActivityFinal}
@@ -20,6 +20,7 @@ use Rattle.paper.proofs.Bools.{and-never, either-way}
 use Rattle.paper.proofs.Counts.{any-same}
 use Rattle.paper.proofs.Lengths.{gather-append, gather-each}
 use Rattle.paper.proofs.Tables.{GoodTable, upper-fits}
+use Rattle.wire.proofs.Runs.{gather-same}
 use Rattle.rows.specs.Sets.{nth}
 use Rattle.rows.specs.Rows.{valueOf}
 use Rattle.flow.specs.declared.Offers.{Offers}
@@ -58,13 +59,6 @@ gather-keep {A} {B} f p (x ∷ xs) = by (p x) (gather-keep f p xs)
     by : (c : Bool) → gather f (keep p xs) ≡ gather (λ x. cond (p x) (f x) []) xs → gather f (cond c (x ∷ keep p xs) (keep p xs)) ≡ cond c (f x) [] ++ gather (λ x. cond (p x) (f x) []) xs
     by true e = ap (λ (l : List B). f x ++ l) e
     by false e = e
-
-gather-from : (f g : ℕ → List ℕ) (i n : ℕ) → ((k : ℕ) → k < i + n → f k ≡ g k) → gather f (fromOn i n) ≡ gather g (fromOn i n)
-gather-from f g i zero h = refl
-gather-from f g i (suc n) h = ap₂ _++_ (h i (omega arith)) (gather-from f g (suc i) n (λ k l. h k (omega arith)))
-
-gather-below : (f g : ℕ → List ℕ) (n : ℕ) → ((k : ℕ) → k < n → f k ≡ g k) → gather f (below n) ≡ gather g (below n)
-gather-below f g n h = gather-from f g 0 n (λ k l. h k (omega arith))
 
 -- none or one
 abbrev single : Option ℕ → List ℕ
@@ -140,8 +134,8 @@ module _ (t : List ℕ) (d : Board) (o : Offers) (ts : List Offer) (b ends edge 
   closing-is : any (λ y. isActivityFinal (kind (d .table) (targetOf (d .table) y))) (takenEnds d c) ≡ closes t target n c
   unfolding closes
   closing-is =
-      any-ends t d o ts ends n c (h .seated) (λ y. isActivityFinal (kind (d .table) (targetOf (d .table) y))) (λ k. isActivityFinal (kind t (at target k)))
-      (λ k l. ap (λ z. isActivityFinal (kind (d .table) z)) (target-row t d o ts ends n c (h .seated) edge target home (h .columns) k l) ∙ ap (λ (u : List ℕ). isActivityFinal (kind u (at target k))) (h .seated .table-is))
+      any-ends t d o (h .links) ts ends n c (h .seated) (λ y. isActivityFinal (kind (d .table) (targetOf (d .table) y))) (λ k. isActivityFinal (kind t (at target k)))
+      (λ k l. ap (λ z. isActivityFinal (kind (d .table) z)) (target-row t d o (h .links) ts ends n c (h .seated) edge target home (h .columns) k l) ∙ ap (λ (u : List ℕ). isActivityFinal (kind u (at target k))) (h .seated .table-is))
 
   next-open : closes t target n c ≡ false → next d c ≡ gain d c (spend d c (d .current))
   unfolding next close
@@ -164,7 +158,7 @@ module _ (t : List ℕ) (d : Board) (o : Offers) (ts : List Offer) (b ends edge 
     spent-is : (w : ℕ) → ((y : ℕ) → has w y ≡ makes makers ends n c y) → (e : ℕ) → spent d c e ≡ spends last parents rows w e
     unfolding spends
     spent-is w q e =
-        spent-rows t d o ts ends n c (h .seated) e
+        spent-rows t d o (h .links) ts ends n c (h .seated) e
         ∙ rw (f .last-is, f .parents-are, f .rows-are)
         (any-below-alike (λ y. makes (o .makers) ends n c y && eqb (at (o .parents) y) 0 && eqb (at (o .last) y) e) (spendsRow (o .last) (o .parents) w e) (o .count)
         (λ y l. ap (λ z. z && eqb (at (o .parents) y) 0 && eqb (at (o .last) y) e) (sym (q y ∙ ap (λ (m : List ℕ). makes m ends n c y) (f .makers-are)))))
@@ -179,7 +173,7 @@ module _ (t : List ℕ) (d : Board) (o : Offers) (ts : List Offer) (b ends edge 
         ∙ gather-each (λ x. cond (p x) (g x) []) (end d) (keep (has c) (below (howMany d)))
         ∙ gather-keep (λ k. cond (p (end d k)) (g (end d k)) []) (has c) (below (howMany d))
         ∙ rw (sym (h .seated .number))
-        (gather-below (λ k. cond (has c k) (cond (p (end d k)) (g (end d k)) []) []) (brought target valued value ends c i) n (λ k l. at-end k l))
+        (gather-same (λ k. cond (has c k) (cond (p (end d k)) (g (end d k)) []) []) (brought target valued value ends c i) n (λ k l. at-end k l))
       where
         at-end : (k : ℕ) → k < n → cond (has c k) (cond (eqb (targetOf (d .table) (end d k)) i) (single (valueOfOffer (end d k))) []) [] ≡ brought target valued value ends c i k
         at-end k l =
@@ -187,7 +181,7 @@ module _ (t : List ℕ) (d : Board) (o : Offers) (ts : List Offer) (b ends edge 
             let y = at ends k in
             let x : end d k ≡ nth ts y = sym (s .ends-are k l) in
             let v : valueOfOffer (nth ts y) ≡ valueOf (at valued y) (at value y) = sym (s .holds-ts .rows y (s .inside k l) .value-is) ∙ sym (rw (f .valued-is, f .value-is)) in
-            rw (x, target-row t d o ts ends n c s edge target home (h .columns) k l, v) (single-brought (has c k) (eqb (at target k) i) (at valued y) (at value y))
+            rw (x, target-row t d o (h .links) ts ends n c s edge target home (h .columns) k l, v) (single-brought (has c k) (eqb (at target k) i) (at valued y) (at value y))
 
     gain-stock : (m : Marking) (i : ℕ) → isObjectNode (kind t i) ≡ true → gain d c m .stock i ≡ m .stock i ++ coming target valued value ends c n i
     unfolding gain
@@ -199,7 +193,7 @@ module _ (t : List ℕ) (d : Board) (o : Offers) (ts : List Offer) (b ends edge 
     unfolding gain starts
     gain-runs m i =
         ap (λ (u : List ℕ). m .runs i || (isAction (kind u i) && any (belongs (d .table) i) (takenEnds d c))) (h .seated .table-is)
-        ∙ ap (λ z. m .runs i || (isAction (kind t i) && z)) (served-rows t d o ts ends n c (h .seated) edge target home (h .columns) i)
+        ∙ ap (λ z. m .runs i || (isAction (kind t i) && z)) (served-rows t d o (h .links) ts ends n c (h .seated) edge target home (h .columns) i)
 
     -- ---- spent and gained
     module _ (x : Table) (s : Spans t x) (w : ℕ) (q : (y : ℕ) → has w y ≡ makes makers ends n c y) (from′ kept′ runs′ tokens′ extra place more : List ℕ)

@@ -45,9 +45,10 @@ pub record Lends (o : Offers) (last parents makers valued value : List ℕ) (row
   pub value-is : value ≡ o .value
   pub rows-are : rows ≡ o .count
 
--- the board d is seated, and its marking, which is live and good, is held as it was read from the bytes b
+-- the board d is seated in the rows of o with some links, and its marking, which is live and good, is held as it was read from the bytes b
 pub record Ready (t : List ℕ) (d : Board) (o : Offers) (ts : List Offer) (b ends edge target home from kept runs tokens : List ℕ) (n : ℕ) : Type 0 where
-  pub seated : Seated t d (rowsOf o) ts ends n
+  pub links : List ℕ
+  pub seated : Seated t d (rowsOf o links) ts ends n
   pub columns : Columns t (o .last) ends edge target home n
   pub live : d .current .ended ≡ false
   pub good-marking : Good t (d .current)

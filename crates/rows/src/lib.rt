@@ -7,7 +7,7 @@ use words::hits;
 ghost use mathlib.Core.Path.{_≡_};
 ghost use mathlib.Core.List.{List, [], _∷_, _++_};
 ghost use Prim.Native.Nat.{ℕ, _+_, _*_, _≤_, _<_};
-ghost use lib.ListN.{length, getD};
+ghost use lib.ListN.{length};
 ghost use Rattle.paper.specs.Lists.{gather};
 ghost use Rattle.paper.specs.Table.{into};
 ghost use Rattle.table.specs.Reading.{Spans};

@@ -35,12 +35,12 @@ three-clear none (some k) z = refl
 three-clear none none (some k) = refl
 three-clear none none none = refl
 
-module _ (t : List ℕ) (d : Board) (o : Offers) (ts : List Offer) (ends : List ℕ) (n c : ℕ) (s : Seated t d (rowsOf o) ts ends n)
+module _ (t : List ℕ) (d : Board) (o : Offers) (links : List ℕ) (ts : List Offer) (ends : List ℕ) (n c : ℕ) (s : Seated t d (rowsOf o links) ts ends n)
     (edge target home : List ℕ) (k : Columns t (o .last) ends edge target home n) (runs stock : List ℕ) (m : Told t (d .current) runs stock) where
   pub acceptable-rows : acceptable d c ≡ allowed t (o .node) (o .parents) (o .makers) (o .foes) ends edge target home runs stock (o .count) n c
   unfolding acceptable allowed apart forks homes
   acceptable-rows =
-      rw (rule1-rows t d o ts ends n c s, rule2-rows t d o ts ends n c s, rule3-rows t d o ts ends n c s edge target home k runs stock m)
+      rw (rule1-rows t d o links ts ends n c s, rule2-rows t d o links ts ends n c s, rule3-rows t d o links ts ends n c s edge target home k runs stock m)
       (three-clear (apart (o .foes) (o .makers) ends n c) (forks (o .node) (o .parents) (o .makers) ends (o .count) n c t) (homes t edge target home runs stock n c)
       ∙ ap₂ (λ (x y : Bool). x && y)
       (ap₂ (λ (x y : Bool). x && y) (find-clear (λ j. has c j && rivalled (o .foes) (o .makers) ends n c j) (below n))
@@ -50,4 +50,4 @@ module _ (t : List ℕ) (d : Board) (o : Offers) (ts : List Offer) (ends : List 
 
   pub wanted-rows : (i : ℕ) → wanted d i c ≡ allowed t (o .node) (o .parents) (o .makers) (o .foes) ends edge target home runs stock (o .count) n c && (not (named i) || served target home n c i)
   unfolding wanted
-  wanted-rows i = ap₂ (λ (x y : Bool). x && (not (named i) || y)) acceptable-rows (served-rows t d o ts ends n c s edge target home k i)
+  wanted-rows i = ap₂ (λ (x y : Bool). x && (not (named i) || y)) acceptable-rows (served-rows t d o links ts ends n c s edge target home k i)

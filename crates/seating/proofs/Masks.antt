@@ -14,8 +14,9 @@ use lib.Seq.{getD-set-same, getD-set-other}
 use borrow.Author.Tests.{ne-eqb}
 use Rattle.paper.specs.Lists.{at, has, below, any}
 use Rattle.paper.specs.Table.{kind, owner, isPin, target as targetOfEdge}
-use Rattle.paper.proofs.Bits.{has-or, has-zero}
+use Rattle.paper.proofs.Bits.{has-or}
 use Rattle.paper.proofs.Counts.{any-below}
+use Rattle.paper.proofs.Digits.{has-zero}
 use Rattle.rows.specs.Sets.{Marks}
 use Rattle.seating.specs.Seating.{Columns, makes}
 

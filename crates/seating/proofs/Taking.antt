@@ -15,7 +15,8 @@ use Rattle.paper.proofs.Bools.{never, and-true, and-both, iff}
 use Rattle.paper.proofs.Members.{In, here, later, in-none, in-one, in-cons, in-append, append-left, append-right, in-gather, in-each, in-keep, any-in, in-any, in-below, below-in}
 use Rattle.paper.proofs.Counts.{any-keep, count-keep, count-below-same}
 use Rattle.paper.proofs.Sameness.{elem-in, in-elem}
-use Rattle.paper.proofs.Bits.{has-zero, no-digit}
+use Rattle.paper.proofs.Bits.{no-digit}
+use Rattle.paper.proofs.Digits.{has-zero}
 use Rattle.rows.specs.Sets.{nth, Means}
 use Rattle.rows.specs.Rows.{isOffer}
 use Rattle.flow.specs.Struct.{rowsOf}
@@ -71,7 +72,7 @@ first-word ts (over o e) w i m =
 first-word ts (with o p) w i m = never false i refl
 
 -- ---- a seated board
-module _ (t : List ℕ) (d : Board) (o : Offers) (ts : List Offer) (ends : List ℕ) (n c : ℕ) (s : Seated t d (rowsOf o) ts ends n) where
+module _ (t : List ℕ) (d : Board) (o : Offers) (links : List ℕ) (ts : List Offer) (ends : List ℕ) (n c : ℕ) (s : Seated t d (rowsOf o links) ts ends n) where
   -- a test of taken ends, as a test of their numbers
   pub any-ends : (p : Offer → Bool) (q : ℕ → Bool) → ((k : ℕ) → k < n → p (nth ts (at ends k)) ≡ q k) → any p (takenEnds d c) ≡ any (λ k. has c k && q k) (below n)
   any-ends p q h =

@@ -2,7 +2,7 @@
 -- A choice is a number; end k is taken if its digit k is 1. Assumes nothing.
 use mathlib.Core.Path.{_≡_}
 use Prim.Native.Nat.{ℕ, _+_, _≤_, _<_}
-use mathlib.Core.Bool.{Bool, true, false, not, _&&_, _||_, cond}
+use mathlib.Core.Bool.{Bool, not, _&&_, _||_, cond}
 use mathlib.Core.List.{List}
 use mathlib.Core.Option.{Option}
 use lib.Dec.{leb, eqb}

@@ -20,7 +20,6 @@ use Rattle.table.specs.Reading.{tableRead}
 use Rattle.table.proofs.Reading.{read-spans, most-nodes}
 use Rattle.flow.specs.declared.Offers.{Offers}
 use Rattle.seating.specs.Seating.{Rowed, Columns}
-use Rattle.seating.proofs.Rules.{Told}
 use Rattle.judge.specs.declared.Judged.{Judged}
 use Rattle.judge.specs.declared.Judged.the-variants.{Fine, Refused as Unfit}
 use Rattle.judge.specs.Judging.{said, rowRules, Lent as Judgeable}
@@ -43,6 +42,7 @@ laid-standing {t} {b} {g} l u =
       on = l .on;
       trees = l .trees;
       full = l .full;
+      links = l .links;
       seated = l .seated;
       end-edges = laid-edges l;
       live = f .facts .live;
@@ -111,7 +111,7 @@ module _ {t b : List ℕ} {a : Table} (e : tableRead t ≡ good a) {o : Offers} 
       (h : said r ≡ judgedBy (rowRules t (o .node) (o .parents) (o .makers) (o .foes) ends edge target home runs kept (o .count) n) c) where
     verdict : judgedBy (rules (s .on)) c ≡ said r
     verdict =
-        judged-rows t (s .on) o (s .trees) ends n c (s .seated) edge target home k runs kept
+        judged-rows t (s .on) o (s .links) (s .trees) ends n c (s .seated) edge target home k runs kept
         (record { running = s .holding .nodes-held .running; stocks = λ i l q. s .holding .nodes-held .stocks i l q .many })
         ∙ sym h
 
@@ -128,6 +128,7 @@ module _ {t b : List ℕ} {a : Table} (e : tableRead t ≡ good a) {o : Offers} 
   module _ {target home : List ℕ} (v : Seen t o ends target home n) where
     pub ready : Ready t (s .on) o (s .trees) b ends (v .edge) target home from kept runs tokens n
     ready = record {
+      links = s .links;
       seated = s .seated;
       columns = v .columns;
       live = s .live;

@@ -5,7 +5,7 @@ use mathlib.Core.Bool.{false}
 use mathlib.Core.List.{List}
 use lib.ListN.{length}
 use Rattle.paper.specs.Lists.{at}
-use Rattle.paper.specs.Answers.{Answer, refused, good, _>>=_, judgedBy}
+use Rattle.paper.specs.Answers.{Answer, good, _>>=_, judgedBy}
 use Rattle.paper.specs.Table.{edges}
 use Rattle.paper.specs.Marking.{encode, Good}
 use Rattle.paper.specs.Offers.{Offer}
@@ -28,12 +28,13 @@ chosen t d ks = do
   m ← stepOf d ks
   good (encode t m)
 
--- a board whose offers and n ends are rows of o, and whose marking, which is live and good, is held as it was read from the bytes b
+-- a board whose offers and n ends are rows of o with some links, and whose marking, which is live and good, is held as it was read from the bytes b
 pub record Standing (t b : List ℕ) (o : Offers) (x : Held) (ends : List ℕ) (n : ℕ) : Type 0 where
   pub on : Board
   pub trees : List Offer
   pub full : Full o
-  pub seated : Seated t on (rowsOf o) trees ends n
+  pub links : List ℕ
+  pub seated : Seated t on (rowsOf o links) trees ends n
   pub end-edges : (k : ℕ) → k < n → at (o .last) (at ends k) < edges t
   pub live : on .current .ended ≡ false
   pub good-marking : Good t (on .current)

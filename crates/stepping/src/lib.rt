@@ -82,7 +82,7 @@ fn moved(
     let makers = offers.makers;
     let has = offers.has;
     let value = offers.value;
-    let mut extra = [0u8; 80];
+    let mut extra = [0u8; gains::ROOM];
     let mut place = [0usize; Table::MOST_NODES];
     let mut more = [0u8; Table::MOST_NODES];
     let state = moves::advance(
@@ -142,9 +142,9 @@ fn settle(
     ensures { λ r. ⌜ ((s : Standing (now (t .entry)) (now (b .entry)) offers (held (now (from .entry)) (now (kept .entry)) (now (runs .entry)) (now (tokens .entry))) (now (ends .entry)) n) → Reply (inRoom (length (now (out .entry))) (settled (now (t .entry)) (s .on) c)) r (now (out .entry)) (now (out .exit))) ⌝ }
 {
     let last = offers.last;
-    let mut edge = [0u8; 20];
-    let mut target = [0u8; 20];
-    let mut home = [0u8; 20];
+    let mut edge = [0u8; ends::MOST_ENDS];
+    let mut target = [0u8; ends::MOST_ENDS];
+    let mut home = [0u8; ends::MOST_ENDS];
     seating::columns(t, table, &last, ends, n, &mut edge, &mut target, &mut home);
     if let Judged::Refused(number, place) = judged(
         t,

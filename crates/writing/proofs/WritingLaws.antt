@@ -1,19 +1,17 @@
 -- Laws of writing a marking: what fields take, how a run of fields grows by one, and that the fields' bytes are the marking's. Assumes nothing.
 use mathlib.Core.Path.{_≡_, refl, sym, ap, ap₂, _∙_}
-use Prim.Native.Nat.{ℕ, zero, suc, _+_, _-_, _*_, _≤_, _<_}
+use Prim.Native.Nat.{ℕ, _+_, _-_, _*_, _≤_, _<_}
 use native.Mathlib.Omega.{arith}
-use native.Mathlib.Nat.{eq-or-lt-of-le, le-of-suc-le-suc}
 use native.Mathlib.Numerals.{add-one}
 use mathlib.Core.Bool.{Bool, true, false, cond}
 use mathlib.Core.Logic.{⊎-elim}
 use mathlib.Core.List.{List, [], _∷_, _++_, append-nil}
-use lib.ListN.{length, take, drop, set, length-append, length-drop}
-use lib.Seq.{sets, take-suc, length-take-le, getD-drop}
+use lib.ListN.{length, take, drop, set, length-append}
+use lib.Seq.{sets}
 use Rattle.paper.specs.Lists.{at, below, gather, oneIf}
 use Rattle.paper.specs.Bytes.{two, listed}
 use Rattle.paper.specs.Table.{nodes, edges, kind, isObjectNode, isAction}
 use Rattle.paper.specs.Marking.{Marking, stockOf, runsOf, tokensOf, written, counted, nodeFields, layout, encode}
-use Rattle.paper.proofs.Lists.{below-suc}
 use Rattle.paper.proofs.Lengths.{gather-append, gather-gather}
 use Rattle.paper.proofs.Bytes.{length-listed}
 use Rattle.paper.proofs.Bools.{true-or-false}

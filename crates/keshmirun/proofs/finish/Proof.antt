@@ -5,7 +5,7 @@ use native.Mathlib.Omega.{arith}
 use Rattle.table.specs.Reading.{said}
 use Rattle.table.proofs.Reading.{read-spans, most-nodes, most-edges}
 use Rattle.holding.proofs.TakenUp.{live-read, lent-room}
-use Rattle.board.proofs.NeedLaws.{need-good}
+use Rattle.paper.proofs.Ladders.{need-passed}
 use Rattle.delivering.specs.Running.{said as saidOfRunning, runsIn}
 use Rattle.delivering.proofs.RunningLaws.{running-node}
 use Rattle.keshmirun.proofs.Finishing.{finish-refused, finish-5, finish-6, finish-14, finish-delivers}
@@ -124,7 +124,7 @@ conclude-requires c κs = let a = c .before .before .before .before .before .bef
     let k : length (u .last .1 .1 .1 .1 .0) ≡ 48 = omega (arith, u .kept) in
     let r : length (u .last .1 .1 .1 .1 .1 .0) ≡ 48 = omega (arith, u .kept) in
     let o : length (u .last .1 .1 .1 .1 .1 .1 .0) ≡ 64 = omega (arith, u .kept) in
-    let n = need-good 14 (runsIn (a .table .now) (l .current) (c .before .before .before .before .before .before .before .before .before .wide .result)) (sym (ap saidOfRunning (c .before .before .before .before .before .enum-told3 .given .1)) ∙ c .before .before .before .before .before .before .before .running .ensures (l .current) (l .holding .nodes-held .running)) in
+    let n = need-passed 14 (runsIn (a .table .now) (l .current) (c .before .before .before .before .before .before .before .before .before .wide .result)) (sym (ap saidOfRunning (c .before .before .before .before .before .enum-told3 .given .1)) ∙ c .before .before .before .before .before .before .before .running .ensures (l .current) (l .holding .nodes-held .running)) in
     (e, omega (arith, running-node (a .table .now) (l .current) (c .before .before .before .before .before .before .before .before .before .wide .result) n, read-spans (a .table .now) e .nodes-read), lent-room (a .table .now) e _ _ _ _ f k r o, l)
 
 same-length : tie.Need-same-length
@@ -135,7 +135,7 @@ returns-5 c = let a = c .before .before .before .before .before .before .before 
     let u = c .before .before .before .before .before .before .before .before .before .before .before .before .before .before .before .before .before .before .before .before .before .before .take-up in
     let e = (sym (c .before .before .before .before .before .before .before .before .before .before .before .before .before .before .before .before .before .before .before .before .before .before .before .before .before .before .before .before .before .before .read .ensures) ∙ ap said (c .before .before .before .before .before .before .before .before .before .before .before .before .before .before .before .before .before .before .before .before .before .before .before .before .before .before .before .before .x .given .1)) in
     let l = (live-read (a .table .now) (a .marking .now) (u .last .1 .1 .1 .0) (u .last .1 .1 .1 .1 .0) (u .last .1 .1 .1 .1 .1 .0) (u .last .1 .1 .1 .1 .1 .1 .0) (u .result) (u .ensures) (c .before .before .before .before .before .before .before .before .before .before .before .before .before .before .before .before .enum-told .given .1)) in
-    let n = need-good 14 (runsIn (a .table .now) (l .current) (c .before .before .before .before .before .before .before .before .before .before .before .before .before .before .before .wide .result)) (sym (ap saidOfRunning (c .before .before .before .before .before .before .before .before .before .before .before .enum-told3 .given .1)) ∙ c .before .before .before .before .before .before .before .before .before .before .before .before .before .running .ensures (l .current) (l .holding .nodes-held .running)) in
+    let n = need-passed 14 (runsIn (a .table .now) (l .current) (c .before .before .before .before .before .before .before .before .before .before .before .before .before .before .before .wide .result)) (sym (ap saidOfRunning (c .before .before .before .before .before .before .before .before .before .before .before .enum-told3 .given .1)) ∙ c .before .before .before .before .before .before .before .before .before .before .before .before .before .running .ensures (l .current) (l .holding .nodes-held .running)) in
     let w = c .before .before .before .before .before .before .before .before .before .before .before .before .before .before .before .wide .ensures .0 in
     record { answer = _; allowed = sym (finish-delivers (a .table .now) (a .marking .now) (a .action) (a .values .now) e l (rw w at n)); reply = rw w at (c .before .before .before .before .before .conclude .ensures l) }
 

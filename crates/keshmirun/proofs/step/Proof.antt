@@ -1,6 +1,5 @@
 -- `step`: the table's refusals, then what is asked of the board. Assumes nothing.
 use mathlib.Core.Path.{sym, ap, _∙_}
-use mathlib.Core.List.{[]}
 use Rattle.table.specs.Reading.{said}
 use Rattle.keshmirun.specs.declared.asking.Request.the-variants.{Step}
 use Rattle.keshmirun.proofs.Requests.{table-refused}

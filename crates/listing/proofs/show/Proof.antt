@@ -1,9 +1,8 @@
 -- `show`: the room first, then the bytes. Assumes nothing.
 use mathlib.Core.Path.{_≡_, sym, ap, _∙_}
-use mathlib.Core.List.{List, _++_}
+use mathlib.Core.List.{_++_}
 use Prim.Native.Nat.{ℕ}
 use lib.ListN.{length, drop}
-use native.Mathlib.Omega.{arith}
 use Rattle.paper.proofs.Calls.{reply-short, reply-full}
 use Rattle.listing.specs.Listing.{sheetShown}
 use Rattle.listing.proofs.Laws.{length-sheet}

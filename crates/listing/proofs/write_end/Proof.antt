@@ -1,8 +1,7 @@
 -- `write_end` stores what stands before the paths, and the paths behind it. Assumes nothing.
-use Prim.Native.Nat.{ℕ, _+_, _*_, _≤_, _<_}
-use mathlib.Core.Path.{_≡_, sym, ap, subst, _∙_}
+use Prim.Native.Nat.{ℕ}
+use mathlib.Core.Path.{_≡_, ap, _∙_}
 use native.Mathlib.Omega.{arith}
-use lib.ListN.{length}
 use Rattle.paper.specs.Lists.{at}
 use Rattle.wire.specs.Totals.{total}
 use Rattle.listing.specs.Listing.{pathTakes, endTakes}

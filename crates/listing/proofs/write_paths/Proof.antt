@@ -7,7 +7,7 @@ use lib.Seq.{sets}
 use Rattle.paper.specs.Lists.{at, below, gather}
 use Rattle.wire.specs.Totals.{total}
 use Rattle.wire.proofs.Runs.{total-more, total-room, run-more}
-use Rattle.listing.specs.Listing.{pathShown, pathOf, pathTakes}
+use Rattle.listing.specs.Listing.{pathOf, pathTakes}
 use Rattle.listing.proofs.Laws.{length-path}
 use borrow.Author.Needs.{needs}
 use Rattle.listing.proofs.write_paths.Statement.{statement}

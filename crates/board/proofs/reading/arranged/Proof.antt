@@ -1,6 +1,7 @@
--- `arranged`: the columns of the offers, lent. Assumes nothing.
+-- `arranged`: the columns of what was built, lent. Assumes nothing.
 use mathlib.Core.Path.{_≡_, sym}
 use native.Mathlib.Omega.{arith}
+use lib.ListN.{length}
 use Rattle.flow.specs.Struct.{rowsOf}
 use Rattle.ends.proofs.Columns.{seen-struct}
 use borrow.Author.Needs.{needs}
@@ -14,24 +15,31 @@ slice-aggregate-arrange-2 : tie.Need-slice-aggregate-arrange-2
 slice-aggregate-arrange-2 c = sym (c .before .before .before .before .before .before .before .before .before .before .before .before .pre .1 .paths-full)
 
 slice-aggregate-arrange-3 : tie.Need-slice-aggregate-arrange-3
-slice-aggregate-arrange-3 c = sym (c .before .before .before .before .before .before .before .before .before .before .before .before .before .pre .1 .befores-full)
+slice-aggregate-arrange-3 c = search needs
+
+slice-aggregate-arrange-4 : tie.Need-slice-aggregate-arrange-4
+slice-aggregate-arrange-4 c = search needs
 
 arrange-requires : tie.Need-arrange-requires
-arrange-requires c κs = let h = c .before .before .before .before .before .before .before .before .before .before .before .before .before .before .before .before .before .pre in (
-  h .0,
-  record {
-    lasts = omega (arith, h .1 .lasts-full);
-    numbers = omega (arith, h .1 .paths-full);
-    befores = omega (arith, h .1 .befores-full);
-    froms = h .2 .0;
-    tos = h .2 .1;
-    ranges = h .2 .2;
-    rows-room = h .3 .ends-room;
-    order-room = h .3 .order-room;
-    lens-room = h .3 .lens-room;
-    cells-room = h .3 .cells-room;
-  },
-)
+arrange-requires c κs =
+    let h = c .before .before .before .before .before .before .before .before .before .before .before .before .before .before .before .before .before .before .pre in
+    let a = c .before .before .before .before .before .before .before .before .before .before .before .before .before .before .before .before .before .before .args in
+    let l : 64 ≡ length (a .built .from) = slice-aggregate-arrange-3 (c .before .before .before .before .before) in
+    let k : 64 ≡ length (a .built .to) = slice-aggregate-arrange-4 (c .before .before .before .before) in (
+      h .0,
+      record {
+        lasts = omega (arith, h .1 .lasts-full);
+        numbers = omega (arith, h .1 .paths-full);
+        befores = h .2;
+        froms = omega arith;
+        tos = omega arith;
+        ranges = h .3;
+        rows-room = h .4 .ends-room;
+        order-room = h .4 .order-room;
+        lens-room = h .4 .lens-room;
+        cells-room = h .4 .cells-room;
+      },
+    )
 
 same-length : tie.Need-same-length
 same-length c = search needs
@@ -46,7 +54,7 @@ same-length-4 : tie.Need-same-length-4
 same-length-4 c = search needs
 
 returns : tie.Need-returns
-returns c = let a = c .before .before .before .before .before .before .before .before .before .before .before .before .before .before .before .before .before .before .before .before .before .before .before .before .before .before .args in λ m g y. c .before .before .before .before .before .before .before .before .arrange .ensures .1 m g (rowsOf (a .offers)) (seen-struct (a .offers)) y
+returns c = let a = c .before .before .before .before .before .before .before .before .before .before .before .before .before .before .before .before .before .before .before .before .before .before .before .before .before .before .before .args in λ m g y. c .before .before .before .before .before .before .before .before .arrange .ensures .1 m g (rowsOf (a .built .offers) (a .links .now)) (seen-struct (a .built .offers) (a .links .now)) y
 
 pub arranged-spec : {M : Type 1} → statement M
 arranged-spec =
@@ -55,6 +63,7 @@ arranged-spec =
     slice-aggregate-arrange
     slice-aggregate-arrange-2
     slice-aggregate-arrange-3
+    slice-aggregate-arrange-4
     arrange-requires
     same-length
     same-length-2

@@ -1,16 +1,15 @@
 -- `read`: row after row, each by what its reader answers. Assumes nothing.
-use mathlib.Core.Path.{_≡_, sym, ap, _∙_}
+use mathlib.Core.Path.{sym, ap, _∙_}
 use native.Mathlib.Omega.{arith}
-use lib.ListN.{length}
 use Rattle.paper.specs.Table.{nodes, edges}
 use Rattle.paper.specs.Offers.{guardsFine}
+use Rattle.paper.proofs.Ladders.{need-refused, need-passed}
 use Rattle.table.proofs.Reading.{read-spans}
 use Rattle.holding.specs.TakenUp.{held}
 use Rattle.holding.proofs.TakenUp.{live-read}
-use Rattle.board.specs.Guards.{said}
+use Rattle.guards.specs.Guards.{said}
 use Rattle.board.specs.Reading.{seats}
-use Rattle.board.proofs.NeedLaws.{need-refused, need-good}
-use Rattle.board.proofs.GuardLaws.{guards-long}
+use Rattle.guards.proofs.GuardLaws.{guards-long}
 use Rattle.board.proofs.Ladder.{board-5, board-6, board-7, refused-board}
 use borrow.Author.Needs.{needs}
 use Rattle.board.proofs.reading.read.Statement.{statement}
@@ -83,8 +82,8 @@ returns-2 c = let a = c .before .before .before .before .before .before .before 
     refused-board t b g (c .refused2 .result .offers) (held (c .before .before .before .before .before .before .before .before .before .before .before .before .take-up .last .1 .1 .1 .0) (c .before .before .before .before .before .before .before .before .before .before .before .before .take-up .last .1 .1 .1 .1 .0) (c .before .before .before .before .before .before .before .before .before .before .before .before .take-up .last .1 .1 .1 .1 .1 .0) (c .before .before .before .before .before .before .before .before .before .before .before .before .take-up .last .1 .1 .1 .1 .1 .1 .0)) (seats (a .ends .now) (a .order .now) (a .lens .now) (a .cells .now)) (c .refused2 .result .answer) _ _ (c .refused2 .ensures)
     (board-5 t b g (h .0) (c .before .before .before .before .before .before .before .before .before .before .before .before .take-up .last .1 .1 .1 .0) (c .before .before .before .before .before .before .before .before .before .before .before .before .take-up .last .1 .1 .1 .1 .0) (c .before .before .before .before .before .before .before .before .before .before .before .before .take-up .last .1 .1 .1 .1 .1 .0) (c .before .before .before .before .before .before .before .before .before .before .before .before .take-up .last .1 .1 .1 .1 .1 .1 .0) (c .before .before .before .before .before .before .before .before .before .before .before .before .take-up .result) (c .before .before .before .before .before .before .before .before .before .before .before .before .take-up .ensures) _ _ (q .1))
 
-read-guards-requires : tie.Need-read-guards-requires
-read-guards-requires c κs = read-spans (c .before .before .before .before .before .before .before .before .before .before .before .before .before .before .before .before .before .before .before .before .before .before .before .before .before .before .args .t .now) (c .before .before .before .before .before .before .before .before .before .before .before .before .before .before .before .before .before .before .before .before .before .before .before .before .before .before .pre .0)
+read-requires : tie.Need-read-requires
+read-requires c κs = read-spans (c .before .before .before .before .before .before .before .before .before .before .before .before .before .before .before .before .before .before .before .before .before .before .before .before .before .before .args .t .now) (c .before .before .before .before .before .before .before .before .before .before .before .before .before .before .before .before .before .before .before .before .before .before .before .before .before .before .pre .0)
 
 enum-known-number-2 : tie.Need-enum-known-number-2
 enum-known-number-2 c = search needs
@@ -112,7 +111,7 @@ returns-3 c = let a = c .before .before .before .before .before .before .before 
     let g = a .g .now in
     let u = c .before .before .before .before .before .before .before .before .before .before .before .before .before .before .before .take-up in
     let l = live-read t b (u .last .1 .1 .1 .0) (u .last .1 .1 .1 .1 .0) (u .last .1 .1 .1 .1 .1 .0) (u .last .1 .1 .1 .1 .1 .1 .0) (u .result) (u .ensures) (c .before .before .before .before .before .enum-told .given .1) in
-    let q = need-refused 7 (guardsFine t g) _ _ (sym (ap said (c .before .before .number2 .given .1)) ∙ c .before .before .before .before .read-guards .ensures) in
+    let q = need-refused 7 (guardsFine t g) _ _ (sym (ap said (c .before .before .number2 .given .1)) ∙ c .before .before .before .before .read .ensures) in
     refused-board t b g (c .refused3 .result .offers) (held (u .last .1 .1 .1 .0) (u .last .1 .1 .1 .1 .0) (u .last .1 .1 .1 .1 .1 .0) (u .last .1 .1 .1 .1 .1 .1 .0)) (seats (a .ends .now) (a .order .now) (a .lens .now) (a .cells .now)) (c .refused3 .result .answer) _ _ (c .refused3 .ensures)
     (rw (q .1, q .2) (board-7 t b g (h .0) l (q .0)))
 
@@ -124,7 +123,7 @@ seat-requires c κs = let a = c .before .before .before .before .before .before 
     let h = c .before .before .before .before .before .before .before .before .before .before .before .before .before .before .before .before .before .before .before .before .before .before .before .before .before .before .before .before .before .before .before .before .before .before .before .before .pre in
     let t = a .t .now in
     let g = a .g .now in
-    let f = need-good 7 (guardsFine t g) (sym (ap said (c .before .before .before .before .before .before .before .enum-told3 .given .1)) ∙ c .before .before .before .before .before .before .before .before .before .read-guards .ensures) in
+    let f = need-passed 7 (guardsFine t g) (sym (ap said (c .before .before .before .before .before .before .before .enum-told3 .given .1)) ∙ c .before .before .before .before .before .before .before .before .before .read .ensures) in
     let k = c .before .before .before .before .before .before .before .before .before .before .before .before .before .before .before .before .before .before .before .before .take-up .kept in
     ((h .0, guards-long t g f, omega (arith, h .1 .froms, k), omega (arith, h .1 .kepts, k), omega (arith, h .1 .tokens-there, k)), h .2)
 
@@ -159,7 +158,7 @@ returns-4 c = let a = c .before .before .before .before .before .before .before 
     let g = a .g .now in
     let u = c .before .before .before .before .before .before .before .before .before .before .before .before .before .before .before .before .before .before .before .before .before .before .before .before .before .before .before .before .before .take-up in
     let l = live-read t b (u .last .1 .1 .1 .0) (u .last .1 .1 .1 .1 .0) (u .last .1 .1 .1 .1 .1 .0) (u .last .1 .1 .1 .1 .1 .1 .0) (u .result) (u .ensures) (c .before .before .before .before .before .before .before .before .before .before .before .before .before .before .before .before .before .before .before .enum-told .given .1) in
-    c .before .before .before .before .before .before .before .before .seat .ensures (u .last .1 .1 .1 .1 .1 .0) l (need-good 7 (guardsFine t g) (sym (ap said (c .before .before .before .before .before .before .before .before .before .before .before .before .before .before .before .before .enum-told3 .given .1)) ∙ c .before .before .before .before .before .before .before .before .before .before .before .before .before .before .before .before .before .before .read-guards .ensures))
+    c .before .before .before .before .before .before .before .before .seat .ensures (u .last .1 .1 .1 .1 .1 .0) l (need-passed 7 (guardsFine t g) (sym (ap said (c .before .before .before .before .before .before .before .before .before .before .before .before .before .before .before .before .enum-told3 .given .1)) ∙ c .before .before .before .before .before .before .before .before .before .before .before .before .before .before .before .before .before .before .read .ensures))
 
 pub read-spec : {M : Type 1} → statement M
 read-spec =
@@ -181,7 +180,7 @@ read-spec =
     same-length-7
     same-length-8
     returns-2
-    read-guards-requires
+    read-requires
     enum-known-number-2
     refused-requires-3
     same-length-9

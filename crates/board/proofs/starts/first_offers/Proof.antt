@@ -1,6 +1,6 @@
 -- `first_offers`: a code and a value, edge after edge. Assumes nothing.
-use Prim.Native.Nat.{ℕ, _≤_, _<_, _-_, _+_}
-use mathlib.Core.Path.{_≡_, sym, ap, subst, _∙_}
+use Prim.Native.Nat.{_≤_, _-_}
+use mathlib.Core.Path.{_≡_, ap, _∙_}
 use native.Mathlib.Omega.{arith}
 use lib.ListN.{length, length-set}
 use borrow.Author.Needs.{needs}
@@ -9,7 +9,7 @@ use Rattle.paper.specs.Table.{source}
 use Rattle.paper.proofs.Cursor.{wordAt}
 use Rattle.table.proofs.Reading.{read-spans, source-node}
 use Rattle.board.specs.Starts.{Begun}
-use Rattle.board.proofs.StartLaws.{begun-none, begun-more}
+use Rattle.board.proofs.StartLaws.{begun-more}
 use Rattle.board.proofs.starts.first_offers.Statement.{statement}
 use Rattle.board.proofs.starts.first_offers.Tie as tie
 

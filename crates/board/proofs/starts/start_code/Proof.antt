@@ -1,7 +1,7 @@
 -- `start_code`: from the count, or from the stock of the source. Assumes nothing.
 use mathlib.Core.Path.{_≡_, sym, ap, _∙_}
 use native.Mathlib.Omega.{arith}
-use borrow.Author.Tests.{not-true, not-false, eq-eqb, ne-eqb}
+use borrow.Author.Tests.{not-true, not-false, ne-eqb}
 use Rattle.paper.specs.Table.{kind, source, isObjectNode}
 use Rattle.paper.specs.Lists.{at}
 use Rattle.table.proofs.Reading.{read-spans, source-node}

@@ -69,7 +69,7 @@ returns-3 : tie.Need-returns-3
 returns-3 c = let a = c .before .before .before .before .before .before .before .before .before .before .before .before .before .before .before .before .before .before .before .before .before .before .before .before .args in
     let r = c .before .before .pick in
     λ y. let l = laid-in y _ (c .before .before .before .before .before .before .before .before .before .before .answer .given .1) in
-    pick-leaves (a .t .now) (a .b .now) (y .guards) (a .choice .now) l (a .request) (r .result) (a .out .now) _ _ (c .before .before .before .before .before .before .before .request .given .1) (r .ensures (l .on) (l .trees) (l .seated) (laid-told l) (stocks-fit l))
+    pick-leaves (a .t .now) (a .b .now) (y .guards) (a .choice .now) l (a .request) (r .result) (a .out .now) _ _ (c .before .before .before .before .before .before .before .request .given .1) (r .ensures (l .links) (l .on) (l .trees) (l .seated) (laid-told l) (stocks-fit l))
 
 same-length-5 : tie.Need-same-length-5
 same-length-5 c = search needs
