@@ -16,7 +16,7 @@ use Rattle.paper.proofs.Bools.{never}
 use Rattle.paper.proofs.Bytes.{Bytes}
 use Rattle.paper.proofs.Lengths.{length-keep, length-from}
 use Rattle.paper.proofs.Picks.{pick-unique}
-use Rattle.text.specs.Written.{Printed}
+use Rattle.numbers.specs.Written.{Printed}
 use Rattle.text.specs.Sheets.{Sheet}
 use Rattle.text.proofs.Boards.{few-ends}
 use Rattle.text.proofs.Meaning.{sheet-fits}

@@ -8,7 +8,7 @@ use Rattle.paper.specs.Choices.{Board, board}
 use Rattle.paper.specs.Operations.{Pick, sheetBytes}
 use Rattle.paper.specs.Program.{boardText, text}
 use Rattle.paper.proofs.Bytes.{Bytes}
-use Rattle.text.specs.Written.{Printed}
+use Rattle.numbers.specs.Written.{Printed}
 
 module _ (t m g : List ℕ) where
   -- table, marking and guards are a board, and the bytes are its sheet

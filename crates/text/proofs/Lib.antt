@@ -1,7 +1,5 @@
 -- Laws of the stream's parts and of the text.
 pub mod Split
-pub mod Writing
-pub mod Decimals
 pub mod Showing
 pub mod Boards
 pub mod Meaning

@@ -27,7 +27,7 @@ use Rattle.table.specs.declared.Table.{Table}
 use Rattle.table.specs.Reading.{countsOf, Spans}
 use Rattle.text.specs.Shown.{pathOver, pathsOver, pathShown, pathsShown, valueShown, headShown, endOver, endShown, endsOver, endsShown, EndsFit, countShown, pickShown, textShown}
 use Rattle.text.specs.Sheets.{Sheet}
-use Rattle.text.proofs.Decimals.{parted-more}
+use Rattle.numbers.proofs.Decimals.{parted-more}
 use Rattle.text.proofs.Boards.{Small, EndFacts, few-ends, end-facts, sheet-most}
 
 -- ---- what is behind a place

@@ -1,4 +1,3 @@
 -- What the text's writers promise, over the bytes they are lent.
-pub mod Written
 pub mod Shown
 pub mod Sheets

@@ -6,12 +6,11 @@ ghost use lib.ListN.{length};
 ghost use Rattle.paper.specs.Lists.{at};
 ghost use Rattle.paper.specs.Program.{boardText, refusalText};
 ghost use Rattle.table.specs.Reading.{Spans};
-ghost use Rattle.text.specs.Written.{Written, Printed};
+ghost use Rattle.numbers.specs.Written.{Written, Printed};
 ghost use Rattle.text.specs.Sheets.{Sheet};
 ghost use Rattle.text.specs.Shown.{pathOver, pathsOver, pathShown, pathsShown, valueShown, headShown, endOver, endShown, endsOver, endsShown, EndsFit, countShown, pickShown};
 use table::Table;
 
-mod numbers;
 pub mod stream;
 
 const SPACE: u8 = 32;

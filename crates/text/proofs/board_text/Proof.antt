@@ -2,7 +2,7 @@
 use mathlib.Core.Path.{refl, _∙_}
 use Rattle.text.proofs.Meaning.{sheet-reads, spans-as, text-is, shown-is}
 use native.Mathlib.Omega.{arith}
-use Rattle.text.proofs.Writing.{wrote-as, wrote-then, printed}
+use Rattle.numbers.proofs.Writing.{wrote-as, wrote-then, printed}
 use borrow.Author.Needs.{needs}
 use Rattle.text.proofs.board_text.Statement.{statement}
 use Rattle.text.proofs.board_text.Tie as tie

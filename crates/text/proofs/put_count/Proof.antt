@@ -1,7 +1,7 @@
 -- `put_count`: three pieces, one behind another. Assumes nothing.
 use native.Mathlib.Omega.{arith}
-use Rattle.text.proofs.Writing.{wrote-as, wrote-long, wrote-then, wrote-more}
-use Rattle.text.proofs.Decimals.{byte-short}
+use Rattle.numbers.proofs.Writing.{wrote-as, wrote-long, wrote-then, wrote-more}
+use Rattle.numbers.proofs.Decimals.{byte-short}
 use Rattle.text.proofs.Showing.{count-is}
 use borrow.Author.Needs.{needs}
 use Rattle.text.proofs.put_count.Statement.{statement}

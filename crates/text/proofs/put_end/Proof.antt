@@ -1,7 +1,7 @@
 -- `put_end`: the head of the line, the paths, the line's end. Assumes nothing.
 use mathlib.Core.Path.{_∙_}
 use native.Mathlib.Omega.{arith}
-use Rattle.text.proofs.Writing.{wrote-as, wrote-long, wrote-then, wrote-more}
+use Rattle.numbers.proofs.Writing.{wrote-as, wrote-long, wrote-then, wrote-more}
 use Rattle.text.proofs.Showing.{end-grow, end-over, end-is}
 use borrow.Author.Needs.{needs}
 use Rattle.text.proofs.put_end.Statement.{statement}

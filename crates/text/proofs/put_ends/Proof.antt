@@ -3,7 +3,7 @@ use mathlib.Core.Path.{_≡_, sym, _∙_}
 use Prim.Native.Nat.{_+_, _*_, _-_, _≤_}
 use native.Mathlib.Omega.{arith}
 use Rattle.text.specs.Shown.{endOver, endsOver, endsShown, EndsFit}
-use Rattle.text.proofs.Writing.{Writing, writing-none, writing-on, writing-long, writing-done}
+use Rattle.numbers.proofs.Writing.{Writing, writing-none, writing-on, writing-long, writing-done}
 use Rattle.text.proofs.Showing.{ends-whole, fit-whole, ends-grow, ends-on, ends-next, fit-here, ends-end, ends-none}
 use borrow.Author.Needs.{needs}
 use Rattle.text.proofs.put_ends.Statement.{statement}

@@ -1,7 +1,7 @@
 -- `put_head`: four numbers, one behind another. Assumes nothing.
 use native.Mathlib.Omega.{arith}
-use Rattle.text.proofs.Writing.{wrote-as, wrote-long, wrote-then}
-use Rattle.text.proofs.Decimals.{byte-short}
+use Rattle.numbers.proofs.Writing.{wrote-as, wrote-long, wrote-then}
+use Rattle.numbers.proofs.Decimals.{byte-short}
 use Rattle.text.proofs.Showing.{head-is}
 use borrow.Author.Needs.{needs}
 use Rattle.text.proofs.put_head.Statement.{statement}

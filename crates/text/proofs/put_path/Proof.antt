@@ -1,7 +1,7 @@
 -- `put_path`: a space, and the edges with commas. Assumes nothing.
 use native.Mathlib.Omega.{arith}
 use lib.ListN.{length-set}
-use Rattle.text.proofs.Writing.{wrote-as, wrote-long, wrote-behind}
+use Rattle.numbers.proofs.Writing.{wrote-as, wrote-long, wrote-behind}
 use Rattle.text.proofs.Showing.{path-is}
 use borrow.Author.Needs.{needs}
 use Rattle.text.proofs.put_path.Statement.{statement}

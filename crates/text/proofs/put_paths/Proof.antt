@@ -3,7 +3,7 @@ use mathlib.Core.Path.{_≡_, sym, _∙_}
 use Prim.Native.Nat.{_+_, _*_, _-_, _≤_}
 use native.Mathlib.Omega.{arith}
 use Rattle.text.specs.Shown.{pathsOver, pathsShown, pathOver}
-use Rattle.text.proofs.Writing.{Writing, writing-none, writing-on, writing-long, writing-done}
+use Rattle.numbers.proofs.Writing.{Writing, writing-none, writing-on, writing-long, writing-done}
 use Rattle.text.proofs.Showing.{paths-whole, paths-grow, paths-on, paths-next, paths-end, paths-none}
 use borrow.Author.Needs.{needs}
 use Rattle.text.proofs.put_paths.Statement.{statement}

@@ -1,6 +1,6 @@
 -- `put_pick`: three pieces, one behind another. Assumes nothing.
 use native.Mathlib.Omega.{arith}
-use Rattle.text.proofs.Writing.{wrote-as, wrote-long, wrote-then, wrote-more}
+use Rattle.numbers.proofs.Writing.{wrote-as, wrote-long, wrote-then, wrote-more}
 use Rattle.text.proofs.Showing.{pick-is}
 use borrow.Author.Needs.{needs}
 use Rattle.text.proofs.put_pick.Statement.{statement}

@@ -1,7 +1,7 @@
 -- `put_value` goes by the flag. Assumes nothing.
 use native.Mathlib.Omega.{arith}
-use Rattle.text.proofs.Writing.{wrote-as}
-use Rattle.text.proofs.Decimals.{decimal-short}
+use Rattle.numbers.proofs.Writing.{wrote-as}
+use Rattle.numbers.proofs.Decimals.{decimal-short}
 use Rattle.text.proofs.Showing.{value-none, value-some}
 use borrow.Author.Needs.{needs}
 use Rattle.text.proofs.put_value.Statement.{statement}

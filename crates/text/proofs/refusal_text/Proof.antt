@@ -1,7 +1,7 @@
 -- `refusal_text`: four pieces, one behind another. Assumes nothing.
 use native.Mathlib.Omega.{arith}
-use Rattle.text.proofs.Writing.{wrote-as, wrote-long, wrote-then, wrote-more, printed}
-use Rattle.text.proofs.Decimals.{decimal-short}
+use Rattle.numbers.proofs.Writing.{wrote-as, wrote-long, wrote-then, wrote-more, printed}
+use Rattle.numbers.proofs.Decimals.{decimal-short}
 use Rattle.text.proofs.Showing.{refusal-is}
 use borrow.Author.Needs.{needs}
 use Rattle.text.proofs.refusal_text.Statement.{statement}

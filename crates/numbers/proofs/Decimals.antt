@@ -13,8 +13,8 @@ use Rattle.paper.specs.Lists.{at, each, gather}
 use Rattle.paper.specs.Program.{digits, decimal, parted, commas}
 use Rattle.paper.proofs.Bools.{true-or-false}
 use Rattle.paper.proofs.Lengths.{gather-each}
-use Rattle.text.specs.Written.{Written}
-use Rattle.text.proofs.Writing.{wrote-none, wrote-one, wrote-more}
+use Rattle.numbers.specs.Written.{Written}
+use Rattle.numbers.proofs.Writing.{wrote-none, wrote-one, wrote-more}
 
 -- ---- digits
 digits-few : (n v : ℕ) → 0 < n → v < 10 → digits n v ≡ (48 + v % 10) ∷ []

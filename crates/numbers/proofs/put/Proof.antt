@@ -1,8 +1,8 @@
 -- `put` is a copy. Assumes nothing.
-use Rattle.text.proofs.Writing.{wrote-all}
+use Rattle.numbers.proofs.Writing.{wrote-all}
 use borrow.Author.Needs.{needs}
-use Rattle.text.proofs.numbers.put.Statement.{statement}
-use Rattle.text.proofs.numbers.put.Tie as tie
+use Rattle.numbers.proofs.put.Statement.{statement}
+use Rattle.numbers.proofs.put.Tie as tie
 
 copy-requires : tie.Need-copy-requires
 copy-requires c κs = search needs

@@ -6,7 +6,7 @@ use native.Mathlib.Omega.{arith}
 use lib.ListN.{length, take, set, length-append}
 use lib.Seq.{sets, length-sets, take-length}
 use Rattle.wire.proofs.Laws.{sets-then, sets-front}
-use Rattle.text.specs.Written.{Written, Printed}
+use Rattle.numbers.specs.Written.{Written, Printed}
 
 -- ---- single texts
 pub wrote-none : (d : List ℕ) (to : ℕ) → Written d to [] d to

@@ -5,11 +5,11 @@ use Prim.Native.Nat.{_+_, _*_, _-_, _≤_}
 use native.Mathlib.Omega.{arith}
 use lib.ListN.{take, drop}
 use Rattle.paper.specs.Program.{decimal}
-use Rattle.text.proofs.Writing.{Writing, wrote-one, wrote-as, wrote-long, wrote-then, writing-none, writing-on, writing-long, writing-done}
-use Rattle.text.proofs.Decimals.{byte-short, further, commas-none, commas-first, further-next, further-none}
+use Rattle.numbers.proofs.Writing.{Writing, wrote-one, wrote-as, wrote-long, wrote-then, writing-none, writing-on, writing-long, writing-done}
+use Rattle.numbers.proofs.Decimals.{byte-short, further, commas-none, commas-first, further-next, further-none}
 use borrow.Author.Needs.{needs}
-use Rattle.text.proofs.numbers.put_commas.Statement.{statement}
-use Rattle.text.proofs.numbers.put_commas.Tie as tie
+use Rattle.numbers.proofs.put_commas.Statement.{statement}
+use Rattle.numbers.proofs.put_commas.Tie as tie
 
 abbrev Inv-loop : tie.InvT-loop
 Inv-loop s from n out₀ to next₀ k₀ out next k = (1 ≤ k) × (k ≤ n) × (next + 4 ≤ next₀ + 4 * k) × Writing out₀ next₀ (further (take (n - 1) (drop (from + 1) s))) (further (take (n - k) (drop (from + k) s))) out next

@@ -1,15 +1,15 @@
 -- `put_digits`, the digits before the last one first. The measure is how many may still be written. Assumes nothing.
 use native.Mathlib.Omega.{arith}
-use Rattle.text.proofs.Decimals.{wrote-no-digit, wrote-digit, wrote-digits, one-digit, one-more}
+use Rattle.numbers.proofs.Decimals.{wrote-no-digit, wrote-digit, wrote-digits, one-digit, one-more}
 use borrow.Author.Needs.{needs}
 use Prim.Native.Nat.{ℕ, _<_}
 use borrow.Fn.Kinds.{In}
 use borrow.Fn.PlainCycle.{Measures, is, falls, and}
-use Rattle.text.proofs.numbers.put_digits.Reads as put-digits
-use Rattle.text.proofs.numbers.put_digits.Kinds as put-digits-kinds
-use Rattle.text.proofs.numbers.+put_digits.Lts-put_digits as put-digits-lts
-use Rattle.text.proofs.numbers.+put_digits.{statement}
-use Rattle.text.proofs.numbers.+put_digits.Tie.{close}
+use Rattle.numbers.proofs.put_digits.Reads as put-digits
+use Rattle.numbers.proofs.put_digits.Kinds as put-digits-kinds
+use Rattle.numbers.proofs.+put_digits.Lts-put_digits as put-digits-lts
+use Rattle.numbers.proofs.+put_digits.{statement}
+use Rattle.numbers.proofs.+put_digits.Tie.{close}
 
 abbrev μ-put-digits : Measures 1 put-digits-kinds.ps ℕ
 μ-put-digits κs a = a .0

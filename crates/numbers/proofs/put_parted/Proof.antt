@@ -1,10 +1,10 @@
 -- `put_parted`: a byte, and the number behind it. Assumes nothing.
 use native.Mathlib.Omega.{arith}
 use lib.ListN.{length-set}
-use Rattle.text.proofs.Writing.{wrote-long, wrote-behind}
+use Rattle.numbers.proofs.Writing.{wrote-long, wrote-behind}
 use borrow.Author.Needs.{needs}
-use Rattle.text.proofs.numbers.put_parted.Statement.{statement}
-use Rattle.text.proofs.numbers.put_parted.Tie as tie
+use Rattle.numbers.proofs.put_parted.Statement.{statement}
+use Rattle.numbers.proofs.put_parted.Tie as tie
 
 slice-write-out : tie.Need-slice-write-out
 slice-write-out c = search needs

@@ -4,7 +4,7 @@ ghost use mathlib.Core.List.{_∷_};
 ghost use Prim.Native.Nat.{_+_, _*_, _≤_, _<_};
 ghost use lib.ListN.{length, take, drop};
 ghost use Rattle.paper.specs.Program.{digits, decimal, commas};
-ghost use Rattle.text.specs.Written.{Written};
+ghost use Rattle.numbers.specs.Written.{Written};
 
 const DASH: u8 = 45;
 

@@ -1,0 +1,3 @@
+-- Laws of what is written, and of decimals.
+pub mod Writing
+pub mod Decimals
