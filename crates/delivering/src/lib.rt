@@ -1,5 +1,6 @@
-// What start and finish end with: the lists of values appended, the tokens handed out and the reply written; and for finish, whether an action runs
-// and what becomes of it. The marking is held in lent slices (`Deliverable`, `LiveHeld`).
+// start and finish on a table that was read: the marking taken up, the action that ends, the lists of values appended, the tokens handed out and the
+// reply written. The marking is held in slices (`Deliverable`, `LiveHeld`).
+use marking::MarkingAnswer;
 use marking::ValuesAnswer;
 use table::Table;
 ghost use mathlib.Core.Path.{_≡_};
@@ -11,14 +12,14 @@ ghost use Rattle.paper.specs.Lists.{at, oneIf};
 ghost use Rattle.paper.specs.Answers.{good, need};
 ghost use Rattle.paper.specs.Table.{nodes, kind, isAction};
 ghost use Rattle.paper.specs.Marking.{Marking};
-ghost use Rattle.paper.specs.Operations.{Reply, inRoom, idled};
+ghost use Rattle.paper.specs.Operations.{Leaves, Only, Reply, inRoom, idled, start as started, finish as finished};
 ghost use Rattle.table.specs.Reading.{Spans, tableRead};
 ghost use Rattle.holding.specs.TakenUp.{held, HeldRoom, LiveHeld};
 ghost use Rattle.delivering.specs.Delivered.{Deliverable, delivered};
 ghost use Rattle.delivering.specs.Running.{said, runsIn};
 
 // The lists appended and the tokens handed out (rows 15 and 16), then the reply: what start and finish end with.
-pub fn deliver(
+fn deliver(
     t: &[u8],
     table: Table,
     kind: usize,
@@ -75,7 +76,7 @@ pub enum RunningAnswer {
 }
 
 // Whether node a is a running action (row 14).
-pub fn running(t: &[u8], table: Table, runs: &[u8], a: usize) -> RunningAnswer
+fn running(t: &[u8], table: Table, runs: &[u8], a: usize) -> RunningAnswer
     requires { ⌜ Spans (now t) table × (table .nodes ≤ length (now runs)) ⌝ }
     ensures { λ r. ⌜ ((m : Marking) → ((i : ℕ) → i < nodes (now (t .entry)) → isAction (kind (now (t .entry)) i) ≡ true → at (now (runs .entry)) i ≡ oneIf (m .runs i)) → said r ≡ need 14 (runsIn (now (t .entry)) m a)) ⌝ }
 {
@@ -92,7 +93,7 @@ pub fn running(t: &[u8], table: Table, runs: &[u8], a: usize) -> RunningAnswer
 }
 
 // finish on a live marking that was taken up and in which action a runs.
-pub fn conclude(
+fn conclude(
     t: &[u8],
     table: Table,
     b: &[u8],
@@ -122,6 +123,65 @@ pub fn conclude(
         runs,
         &fire,
         tokens,
+        out,
+    )
+}
+
+// start on a table that was read.
+pub fn start(t: &[u8], table: Table, values: &[u8], out: &mut [u8]) -> u64
+    requires { ⌜ tableRead (now t) ≡ good table ⌝ }
+    ensures { λ r. ⌜ Leaves (Only (started (now (t .entry)) (now (values .entry)))) r (now (out .entry)) (now (out .exit)) ⌝ }
+{
+    let from = [0usize; Table::MOST_NODES];
+    let kept = [0u8; Table::MOST_NODES];
+    let runs = [0u8; Table::MOST_NODES];
+    let mut fire = [0u8; Table::MOST_NODES];
+    giving::fire_kind(t, table, Table::INITIAL, &mut fire);
+    let mut tokens = [0u8; Table::MOST_EDGES];
+    deliver(
+        t,
+        table,
+        Table::INCOMING,
+        Table::NO_OWNER,
+        values,
+        values,
+        &from,
+        &kept,
+        &runs,
+        &fire,
+        &mut tokens,
+        out,
+    )
+}
+
+// finish on a table that was read.
+pub fn finish(t: &[u8], table: Table, b: &[u8], action: u8, values: &[u8], out: &mut [u8]) -> u64
+    requires { ⌜ tableRead (now t) ≡ good table ⌝ }
+    ensures { λ r. ⌜ Leaves (Only (finished (now (t .entry)) (now (b .entry)) action (now (values .entry)))) r (now (out .entry)) (now (out .exit)) ⌝ }
+{
+    let mut from = [0usize; Table::MOST_NODES];
+    let mut kept = [0u8; Table::MOST_NODES];
+    let mut runs = [0u8; Table::MOST_NODES];
+    let mut tokens = [0u8; Table::MOST_EDGES];
+    match holding::take_up(t, table, b, &mut from, &mut kept, &mut runs, &mut tokens) {
+        MarkingAnswer::Live => {}
+        MarkingAnswer::Ended => return wire::pack(6, 0, 0),
+        MarkingAnswer::Refused(number, place) => return wire::pack(number, place, 0),
+    }
+    let a = wire::wide(action);
+    if let RunningAnswer::Refused(number, place) = running(t, table, &runs, a) {
+        return wire::pack(number, place, 0);
+    }
+    conclude(
+        t,
+        table,
+        b,
+        a,
+        values,
+        &from,
+        &mut kept,
+        &mut runs,
+        &mut tokens,
         out,
     )
 }

@@ -1,5 +1,4 @@
 -- Laws of the operations' ladders.
 pub mod Ladders
-pub mod Finishing
 pub mod Requests
 pub mod PickSteps

@@ -4,9 +4,6 @@ mod asking;
 
 use asking::Request;
 use asking::ask;
-use delivering::RunningAnswer;
-use marking::MarkingAnswer;
-use table::Table;
 use table::TableAnswer;
 ghost use mathlib.Core.List.{[]};
 ghost use Rattle.paper.specs.Choices.{board};
@@ -38,30 +35,11 @@ pub extern "C" fn check(table: &[u8]) -> u64
 pub extern "C" fn start(table: &[u8], values: &[u8], out: &mut [u8]) -> u64
     ensures { λ r. ⌜ Leaves (Only (started (now (table .entry)) (now (values .entry)))) r (now (out .entry)) (now (out .exit)) ⌝ }
 {
-    let counts = match checking::read(table) {
+    let x = match checking::read(table) {
         TableAnswer::Good(x) => x,
         TableAnswer::Refused(number, place) => return wire::pack(number, place, 0),
     };
-    let from = [0usize; Table::MOST_NODES];
-    let kept = [0u8; Table::MOST_NODES];
-    let runs = [0u8; Table::MOST_NODES];
-    let mut fire = [0u8; Table::MOST_NODES];
-    giving::fire_kind(table, counts, Table::INITIAL, &mut fire);
-    let mut tokens = [0u8; Table::MOST_EDGES];
-    delivering::deliver(
-        table,
-        counts,
-        Table::INCOMING,
-        Table::NO_OWNER,
-        values,
-        values,
-        &from,
-        &kept,
-        &runs,
-        &fire,
-        &mut tokens,
-        out,
-    )
+    delivering::start(table, x, values, out)
 }
 
 // The ends that are offered, in order, with their values and paths.
@@ -141,37 +119,5 @@ pub extern "C" fn finish(
         TableAnswer::Good(x) => x,
         TableAnswer::Refused(number, place) => return wire::pack(number, place, 0),
     };
-    let mut from = [0usize; Table::MOST_NODES];
-    let mut kept = [0u8; Table::MOST_NODES];
-    let mut runs = [0u8; Table::MOST_NODES];
-    let mut tokens = [0u8; Table::MOST_EDGES];
-    match holding::take_up(
-        table,
-        x,
-        marking,
-        &mut from,
-        &mut kept,
-        &mut runs,
-        &mut tokens,
-    ) {
-        MarkingAnswer::Live => {}
-        MarkingAnswer::Ended => return wire::pack(6, 0, 0),
-        MarkingAnswer::Refused(number, place) => return wire::pack(number, place, 0),
-    }
-    let a = wire::wide(action);
-    if let RunningAnswer::Refused(number, place) = delivering::running(table, x, &runs, a) {
-        return wire::pack(number, place, 0);
-    }
-    delivering::conclude(
-        table,
-        x,
-        marking,
-        a,
-        values,
-        &from,
-        &mut kept,
-        &mut runs,
-        &mut tokens,
-        out,
-    )
+    delivering::finish(table, x, marking, action, values, out)
 }

@@ -1,14 +1,7 @@
--- `finish`: rows 1 to 6 and 14, then what `conclude` leaves. Assumes nothing.
-use mathlib.Core.Path.{_≡_, refl, sym, ap, _∙_}
-use lib.ListN.{length}
-use native.Mathlib.Omega.{arith}
+-- `finish`: the table's refusals, then what is left of a table that was read. Assumes nothing.
+use mathlib.Core.Path.{refl, sym, ap, _∙_}
 use Rattle.table.specs.Reading.{said}
-use Rattle.table.proofs.Reading.{read-spans, most-nodes, most-edges}
-use Rattle.holding.proofs.TakenUp.{live-read, lent-room}
-use Rattle.paper.proofs.Ladders.{need-passed}
-use Rattle.delivering.specs.Running.{said as saidOfRunning, runsIn}
-use Rattle.delivering.proofs.RunningLaws.{running-node}
-use Rattle.keshmirun.proofs.Finishing.{finish-refused, finish-5, finish-6, finish-14, finish-delivers}
+use Rattle.keshmirun.proofs.Ladders.{finish-refused}
 use borrow.Author.Needs.{needs}
 use Rattle.keshmirun.proofs.finish.Statement.{statement}
 use Rattle.keshmirun.proofs.finish.Tie as tie
@@ -30,147 +23,14 @@ returns c = let a = c .before .before .before .before .before .before .before .b
     let e = sym (c .before .before .before .before .read .ensures) ∙ ap said (c .before .before .number .given .1) in
     record { answer = _; allowed = sym (finish-refused (a .table .now) (a .marking .now) (a .action) (a .values .now) _ _ e); reply = (c .pack .ensures, refl) }
 
-slice-aggregate-take-up : tie.Need-slice-aggregate-take-up
-slice-aggregate-take-up c = search needs
-
-slice-aggregate-take-up-2 : tie.Need-slice-aggregate-take-up-2
-slice-aggregate-take-up-2 c = search needs
-
-slice-aggregate-take-up-3 : tie.Need-slice-aggregate-take-up-3
-slice-aggregate-take-up-3 c = search needs
-
-slice-aggregate-take-up-4 : tie.Need-slice-aggregate-take-up-4
-slice-aggregate-take-up-4 c = search needs
-
-take-up-requires : tie.Need-take-up-requires
-take-up-requires c κs = let t = c .before .before .before .before .before .before .before .before .before .before .before .before .args .table .now in
-    let e = (sym (c .before .before .before .before .before .before .before .read .ensures) ∙ ap said (c .before .before .before .before .before .x .given .1)) in
-    (e, most-nodes t e, most-nodes t e, most-nodes t e, most-edges t e)
-
-enum-told : tie.Need-enum-told
-enum-told c = search needs
-
-enum-told-2 : tie.Need-enum-told-2
-enum-told-2 c = search needs
-
-pack-requires-2 : tie.Need-pack-requires-2
-pack-requires-2 c κs = search needs
-
-returns-2 : tie.Need-returns-2
-returns-2 c = let a = c .before .before .before .before .before .before .before .before .before .before .before .before .before .before .before .before .before .before .before .before .args in
-    let u = c .before .before .before .before .before .before .before .take-up in
-    let e = (sym (c .before .before .before .before .before .before .before .before .before .before .before .before .before .before .before .read .ensures) ∙ ap said (c .before .before .before .before .before .before .before .before .before .before .before .before .before .x .given .1)) in
-    record { answer = _; allowed = sym (finish-6 (a .table .now) (a .marking .now) (a .action) (a .values .now) e (u .last .1 .1 .1 .0) (u .last .1 .1 .1 .1 .0) (u .last .1 .1 .1 .1 .1 .0) (u .last .1 .1 .1 .1 .1 .1 .0) (u .result) (u .ensures) (c .before .enum-told2 .given .1)); reply = (c .pack2 .ensures, refl) }
-
-enum-known-number-2 : tie.Need-enum-known-number-2
-enum-known-number-2 c = search needs
-
-pack-requires-3 : tie.Need-pack-requires-3
-pack-requires-3 c κs = search needs
-
-returns-3 : tie.Need-returns-3
-returns-3 c = let a = c .before .before .before .before .before .before .before .before .before .before .before .before .before .before .before .before .before .before .before .before .before .args in
-    let u = c .before .before .before .before .before .before .before .before .take-up in
-    let e = (sym (c .before .before .before .before .before .before .before .before .before .before .before .before .before .before .before .before .read .ensures) ∙ ap said (c .before .before .before .before .before .before .before .before .before .before .before .before .before .before .x .given .1)) in
-    record { answer = _; allowed = sym (finish-5 (a .table .now) (a .marking .now) (a .action) (a .values .now) e (u .last .1 .1 .1 .0) (u .last .1 .1 .1 .1 .0) (u .last .1 .1 .1 .1 .1 .0) (u .last .1 .1 .1 .1 .1 .1 .0) (u .result) (u .ensures) _ _ (c .before .before .number2 .given .1)); reply = (c .pack3 .ensures, refl) }
-
-wide-requires : tie.Need-wide-requires
-wide-requires c κs = search needs
-
-slice-aggregate-running : tie.Need-slice-aggregate-running
-slice-aggregate-running c = search needs
-
-running-requires : tie.Need-running-requires
-running-requires c κs = let t = c .before .before .before .before .before .before .before .before .before .before .before .before .before .before .before .before .before .before .before .before .before .args .table .now in
-    let e = (sym (c .before .before .before .before .before .before .before .before .before .before .before .before .before .before .before .before .read .ensures) ∙ ap said (c .before .before .before .before .before .before .before .before .before .before .before .before .before .before .x .given .1)) in
-    (read-spans t e, omega (arith, most-nodes t e, c .before .before .before .before .before .before .before .before .take-up .kept))
-
-enum-known-number-3 : tie.Need-enum-known-number-3
-enum-known-number-3 c = search needs
-
-pack-requires-4 : tie.Need-pack-requires-4
-pack-requires-4 c κs = search needs
-
-returns-4 : tie.Need-returns-4
-returns-4 c = let a = c .before .before .before .before .before .before .before .before .before .before .before .before .before .before .before .before .before .before .before .before .before .before .before .before .before .before .args in
-    let u = c .before .before .before .before .before .before .before .before .before .before .before .before .before .take-up in
-    let e = (sym (c .before .before .before .before .before .before .before .before .before .before .before .before .before .before .before .before .before .before .before .before .before .read .ensures) ∙ ap said (c .before .before .before .before .before .before .before .before .before .before .before .before .before .before .before .before .before .before .before .x .given .1)) in
-    let l = (live-read (a .table .now) (a .marking .now) (u .last .1 .1 .1 .0) (u .last .1 .1 .1 .1 .0) (u .last .1 .1 .1 .1 .1 .0) (u .last .1 .1 .1 .1 .1 .1 .0) (u .result) (u .ensures) (c .before .before .before .before .before .before .before .enum-told .given .1)) in
-    let w = c .before .before .before .before .before .before .wide .ensures .0 in
-    let q = sym (ap saidOfRunning (c .before .before .number3 .given .1)) ∙ c .before .before .before .before .running .ensures (l .current) (l .holding .nodes-held .running) in
-    record { answer = _; allowed = sym (finish-14 (a .table .now) (a .marking .now) (a .action) (a .values .now) e l _ _ (rw w at q)); reply = (c .pack4 .ensures, refl) }
-
-enum-told-3 : tie.Need-enum-told-3
-enum-told-3 c = search needs
-
-slice-aggregate-conclude : tie.Need-slice-aggregate-conclude
-slice-aggregate-conclude c = search needs
-
-slice-aggregate-conclude-2 : tie.Need-slice-aggregate-conclude-2
-slice-aggregate-conclude-2 c = search needs
-
-slice-aggregate-conclude-3 : tie.Need-slice-aggregate-conclude-3
-slice-aggregate-conclude-3 c = search needs
-
-slice-aggregate-conclude-4 : tie.Need-slice-aggregate-conclude-4
-slice-aggregate-conclude-4 c = search needs
-
-conclude-requires : tie.Need-conclude-requires
-conclude-requires c κs = let a = c .before .before .before .before .before .before .before .before .before .before .before .before .before .before .before .before .before .before .before .before .before .before .before .before .before .before .before .before .before .args in
-    let u = c .before .before .before .before .before .before .before .before .before .before .before .before .before .before .before .before .take-up in
-    let e = (sym (c .before .before .before .before .before .before .before .before .before .before .before .before .before .before .before .before .before .before .before .before .before .before .before .before .read .ensures) ∙ ap said (c .before .before .before .before .before .before .before .before .before .before .before .before .before .before .before .before .before .before .before .before .before .before .x .given .1)) in
-    let l = (live-read (a .table .now) (a .marking .now) (u .last .1 .1 .1 .0) (u .last .1 .1 .1 .1 .0) (u .last .1 .1 .1 .1 .1 .0) (u .last .1 .1 .1 .1 .1 .1 .0) (u .result) (u .ensures) (c .before .before .before .before .before .before .before .before .before .before .enum-told .given .1)) in
-    let f : length (u .last .1 .1 .1 .0) ≡ 48 = omega (arith, u .kept) in
-    let k : length (u .last .1 .1 .1 .1 .0) ≡ 48 = omega (arith, u .kept) in
-    let r : length (u .last .1 .1 .1 .1 .1 .0) ≡ 48 = omega (arith, u .kept) in
-    let o : length (u .last .1 .1 .1 .1 .1 .1 .0) ≡ 64 = omega (arith, u .kept) in
-    let n = need-passed 14 (runsIn (a .table .now) (l .current) (c .before .before .before .before .before .before .before .before .before .wide .result)) (sym (ap saidOfRunning (c .before .before .before .before .before .enum-told3 .given .1)) ∙ c .before .before .before .before .before .before .before .running .ensures (l .current) (l .holding .nodes-held .running)) in
-    (e, omega (arith, running-node (a .table .now) (l .current) (c .before .before .before .before .before .before .before .before .before .wide .result) n, read-spans (a .table .now) e .nodes-read), lent-room (a .table .now) e _ _ _ _ f k r o, l)
+finish-requires : tie.Need-finish-requires
+finish-requires c κs = sym (c .before .before .before .before .read .ensures) ∙ ap said (c .before .before .x .given .1)
 
 same-length : tie.Need-same-length
 same-length c = search needs
 
-returns-5 : tie.Need-returns-5
-returns-5 c = let a = c .before .before .before .before .before .before .before .before .before .before .before .before .before .before .before .before .before .before .before .before .before .before .before .before .before .before .before .before .before .before .before .before .before .before .before .args in
-    let u = c .before .before .before .before .before .before .before .before .before .before .before .before .before .before .before .before .before .before .before .before .before .before .take-up in
-    let e = (sym (c .before .before .before .before .before .before .before .before .before .before .before .before .before .before .before .before .before .before .before .before .before .before .before .before .before .before .before .before .before .before .read .ensures) ∙ ap said (c .before .before .before .before .before .before .before .before .before .before .before .before .before .before .before .before .before .before .before .before .before .before .before .before .before .before .before .before .x .given .1)) in
-    let l = (live-read (a .table .now) (a .marking .now) (u .last .1 .1 .1 .0) (u .last .1 .1 .1 .1 .0) (u .last .1 .1 .1 .1 .1 .0) (u .last .1 .1 .1 .1 .1 .1 .0) (u .result) (u .ensures) (c .before .before .before .before .before .before .before .before .before .before .before .before .before .before .before .before .enum-told .given .1)) in
-    let n = need-passed 14 (runsIn (a .table .now) (l .current) (c .before .before .before .before .before .before .before .before .before .before .before .before .before .before .before .wide .result)) (sym (ap saidOfRunning (c .before .before .before .before .before .before .before .before .before .before .before .enum-told3 .given .1)) ∙ c .before .before .before .before .before .before .before .before .before .before .before .before .before .running .ensures (l .current) (l .holding .nodes-held .running)) in
-    let w = c .before .before .before .before .before .before .before .before .before .before .before .before .before .before .before .wide .ensures .0 in
-    record { answer = _; allowed = sym (finish-delivers (a .table .now) (a .marking .now) (a .action) (a .values .now) e l (rw w at n)); reply = rw w at (c .before .before .before .before .before .conclude .ensures l) }
+returns-2 : tie.Need-returns-2
+returns-2 c = search needs
 
 pub finish-spec : {M : Type 1} → statement M
-finish-spec =
-    tie.close
-    (tie.spec
-    read-requires
-    enum-known-x
-    enum-known-number
-    pack-requires
-    returns
-    slice-aggregate-take-up
-    slice-aggregate-take-up-2
-    slice-aggregate-take-up-3
-    slice-aggregate-take-up-4
-    take-up-requires
-    enum-told
-    enum-told-2
-    pack-requires-2
-    returns-2
-    enum-known-number-2
-    pack-requires-3
-    returns-3
-    wide-requires
-    slice-aggregate-running
-    running-requires
-    enum-known-number-3
-    pack-requires-4
-    returns-4
-    enum-told-3
-    slice-aggregate-conclude
-    slice-aggregate-conclude-2
-    slice-aggregate-conclude-3
-    slice-aggregate-conclude-4
-    conclude-requires
-    same-length
-    returns-5)
+finish-spec = tie.close (tie.spec read-requires enum-known-x enum-known-number pack-requires returns finish-requires same-length returns-2)

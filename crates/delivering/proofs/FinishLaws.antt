@@ -1,4 +1,4 @@
--- What finish answers, row by row: of the table, of the marking that was read, of an action that runs in it, and what is then delivered. Assumes nothing.
+-- What finish answers, row by row: of the marking that was read, of an action that runs in it, and what is then delivered. Assumes nothing.
 use mathlib.Core.Path.{_≡_}
 use mathlib.Core.Bool.{true}
 use mathlib.Core.List.{List}
@@ -11,7 +11,7 @@ use Rattle.paper.specs.Operations.{idled, finishOf, finish}
 use Rattle.paper.proofs.Ladders.{need-refused}
 use Rattle.table.specs.declared.Table.{Table}
 use Rattle.table.specs.Reading.{tableRead}
-use Rattle.table.proofs.Reading.{read-refused, read-fine}
+use Rattle.table.proofs.Reading.{read-fine}
 use Rattle.marking.specs.declared.reading.MarkingAnswer.{MarkingAnswer}
 use Rattle.marking.specs.declared.reading.MarkingAnswer.the-variants.{Ended, Refused}
 use Rattle.marking.specs.Values.{listedNodes}
@@ -19,14 +19,10 @@ use Rattle.holding.specs.Holding.{HeldRead}
 use Rattle.holding.specs.TakenUp.{Held, LiveHeld}
 use Rattle.giving.specs.Giving.{giveOf}
 use Rattle.holding.proofs.TakenUp.{refused-read, ended-read}
 use Rattle.delivering.specs.Delivered.{delivered}
 use Rattle.delivering.specs.Running.{runsIn}
 
 module _ (t b : List ℕ) (a : ℕ) (vs : List ℕ) where
-  pub finish-refused : (n p : ℕ) → tableRead t ≡ refused n p → finish t b a vs ≡ refused n p
-  unfolding finish
-  finish-refused n p e = rw (read-refused t n p e)
-
   module _ {x : Table} (e : tableRead t ≡ good x) where
     module _ (from kept runs tokens : List ℕ) (r : MarkingAnswer) (h : HeldRead t b from kept runs tokens (marking t b) r) where
       pub finish-5 : (n p : ℕ) → r ≡ Refused n p → finish t b a vs ≡ refused n p
