@@ -13,8 +13,8 @@ use Rattle.paper.specs.Lists.{at, has, below, all, any, keep, count, _⇒_}
 use Rattle.paper.specs.Table.{nodes, edges, kind, owner, target, into, inputs, isInput, isFork}
 use Rattle.paper.proofs.Lists.{all-below, below-all, lowest-none, lowest-some, all-fails}
 use Rattle.paper.proofs.Counts.{count-below-same, count-most}
-use Rattle.net.specs.Net.{inBoth, held, meets}
-use Rattle.net.proofs.Sets.{held-word, meets-word}
+use Rattle.pruning.specs.Net.{inBoth, held, meets}
+use Rattle.pruning.proofs.Sets.{held-word, meets-word}
 use Rattle.table.proofs.Reading.{fails-at, fails-nowhere}
 use Rattle.rows.specs.Sets.{Marks}
 use Rattle.seating.specs.Seating.{rival, rivalled, apart, siblings, makes, kept, passed, forks, seats, fits, homes}

@@ -11,18 +11,19 @@ use Rattle.paper.proofs.Bools.{never, false-if}
 use Rattle.paper.proofs.Digits.{in-digit, out-digit, has-zero}
 use Rattle.paper.proofs.Choices.{first-unique}
 use Rattle.paper.proofs.Search.{look, Finds, look-finds, look-first, found-first}
-use Rattle.net.specs.declared.Bounds.{Bounds}
+use Rattle.pruning.specs.declared.Bounds.{Bounds}
 use Rattle.net.specs.declared.Place.{Place}
 use Rattle.net.specs.declared.View.{View}
 use Rattle.net.specs.declared.Visit.{Visit}
 use Rattle.net.specs.declared.Visit.the-variants.{Choice, Nothing}
 use Rattle.net.specs.declared.Found.{Found}
 use Rattle.net.specs.declared.Found.the-variants.{Choice as Found·Choice, Nothing as Found·Nothing}
-use Rattle.net.specs.Net.{Net, meets, passes, Answers}
-use Rattle.net.specs.Bounds.{Keeps, NoneIn, Confined, Placed, stepped, said, seen, Scouted, Visited}
-use Rattle.net.proofs.Sets.{has-all, meets-one}
-use Rattle.net.proofs.Rules.{passes-wider, first-same}
-use Rattle.net.proofs.Pruning.{none-after, probed-in}
+use Rattle.pruning.specs.Net.{Net, meets, passes}
+use Rattle.net.specs.Searching.{Answers, Confined, Placed, stepped, said, seen, Scouted, Visited}
+use Rattle.pruning.specs.Bounds.{Keeps, NoneIn}
+use Rattle.pruning.proofs.Sets.{has-all, meets-one}
+use Rattle.pruning.proofs.Rules.{passes-wider, first-same}
+use Rattle.pruning.proofs.Pruning.{none-after, probed-in}
 
 -- ---- the search through all sets, by the number of open ends
 look-none : (w : ℕ → Bool) (r k acc : ℕ) → acc < 2 ^ k → ((x : ℕ) → x < 2 ^ (k + r) → x % 2 ^ k ≡ acc → w x ≡ false) → look w r k acc ≡ none

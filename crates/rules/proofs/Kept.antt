@@ -16,9 +16,9 @@ use Rattle.paper.proofs.Bits.{has-or, has-pow, meet-has, has-meet}
 use Rattle.paper.proofs.Members.{any-in, in-any, in-below, below-in}
 use Rattle.paper.proofs.Counts.{count-below-same}
 use Rattle.rows.specs.Sets.{Marks}
-use Rattle.net.specs.Net.{rule, meets, held, inBoth, obeys}
-use Rattle.net.proofs.Sets.{meets-held}
-use Rattle.net.proofs.FourKinds.{clash-obeyed, need-obeyed, cap-obeyed}
+use Rattle.pruning.specs.Net.{rule, meets, held, inBoth, obeys}
+use Rattle.pruning.proofs.Sets.{meets-held}
+use Rattle.pruning.proofs.FourKinds.{clash-obeyed, need-obeyed, cap-obeyed}
 use Rattle.seating.specs.Seating.{rival, rivalled, makes, siblings, kept, seats, served}
 use Rattle.seating.proofs.Numbers.{any-below-alike}
 use Rattle.rules.specs.Rules.{clashKept, forkKept, edgeKept, idleKept, pinKept, storeKept, nodeKept}

@@ -12,8 +12,8 @@ use Rattle.paper.specs.Choices.{Board, howMany}
 use Rattle.paper.specs.Operations.{named, wanted}
 use Rattle.flow.specs.Struct.{rowsOf}
 use Rattle.flow.specs.declared.Offers.{Offers}
-use Rattle.net.specs.Net.{held}
-use Rattle.net.specs.declared.Wanted.{Wanted}
+use Rattle.pruning.specs.Net.{held}
+use Rattle.pruning.specs.declared.Wanted.{Wanted}
 use Rattle.net.specs.declared.Found.{Found}
 use Rattle.seating.specs.Seating.{Seated, Columns, served, allowed}
 use Rattle.seating.proofs.Rules.{Told, held-kind}

@@ -12,12 +12,13 @@ use Rattle.paper.proofs.Bools.{and-never}
 use Rattle.paper.proofs.Lists.{below-more}
 use Rattle.paper.proofs.Counts.{all-append, any-below-none}
 use Rattle.paper.proofs.Digits.{has-zero}
-use Rattle.net.specs.Net.{Net, rule, meets, held, inBoth, obeys, passes, size, ruleAt, netOf, Answers}
-use Rattle.net.specs.declared.Rule.{Rule}
-use Rattle.net.specs.declared.Wanted.{Wanted}
+use Rattle.pruning.specs.Net.{Net, rule, meets, held, inBoth, obeys, passes, size, ruleAt, netOf}
+use Rattle.net.specs.Searching.{Answers}
+use Rattle.pruning.specs.declared.Rule.{Rule}
+use Rattle.pruning.specs.declared.Wanted.{Wanted}
 use Rattle.net.specs.declared.Found.{Found}
 use Rattle.net.specs.declared.Found.the-variants.{Choice, Nothing}
-use Rattle.net.proofs.Rules.{obeys-apart, first-same}
+use Rattle.pruning.proofs.Rules.{obeys-apart, first-same}
 use Rattle.seating.proofs.Numbers.{all-below-alike}
 use Rattle.rules.specs.Rules.{holds, Added, AddedUpto, Answered}
 

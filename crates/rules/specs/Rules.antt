@@ -11,7 +11,7 @@ use Rattle.paper.specs.Table.{nodes, kind, owner, lower, upper, target as targe
 use Rattle.paper.specs.Choices.{FirstOf}
 use Rattle.table.specs.Reading.{tableRead}
 use Rattle.table.specs.declared.Table.{Table}
-use Rattle.net.specs.Net.{obeys, ruleAt}
+use Rattle.pruning.specs.Net.{obeys, ruleAt}
 use Rattle.net.specs.declared.Found.{Found}
 use Rattle.net.specs.declared.Found.the-variants.{Choice, Nothing}
 use Rattle.seating.specs.Seating.{Rowed, rivalled, kept, seats, served}

@@ -11,11 +11,11 @@ ghost use Rattle.paper.specs.Answers.{good};
 ghost use Rattle.paper.specs.Operations.{named};
 ghost use Rattle.table.specs.Reading.{tableRead};
 ghost use Rattle.rows.specs.Sets.{Marks};
-ghost use Rattle.net.specs.Net.{rule, obeys, held};
+ghost use Rattle.pruning.specs.Net.{rule, obeys, held};
 ghost use Rattle.seating.specs.Seating.{Rowed, served, allowed};
 ghost use Rattle.rules.specs.Rules.{holds, Added, AddedUpto, Lent, Roomy, clashKept, forkKept, edgeKept, nodeKept, Answered};
 use net::Found;
-use net::Wanted;
+use pruning::Wanted;
 use table::Table;
 
 // The cells of a net with as many rules as a call can have: a row each of 20 ends, 64 offers, 64 edges and 48 nodes.

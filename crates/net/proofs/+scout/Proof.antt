@@ -1,7 +1,8 @@
 -- `scout`, a way to answer at a time. The measure is how many ends it may still try. Assumes nothing.
 use mathlib.Core.Path.{ap}
 use native.Mathlib.Omega.{arith}
-use Rattle.net.specs.Bounds.{good, seen}
+use Rattle.pruning.specs.Bounds.{good}
+use Rattle.net.specs.Searching.{seen}
 use Rattle.net.proofs.Searching.{few-states, scouts-alive, scouts-dead, scouts-with, scouts-without}
 use borrow.Author.Needs.{needs}
 use Prim.Native.Nat.{ℕ, _+_, _-_, _<_}
@@ -10,15 +11,15 @@ use borrow.Fn.PlainCycle.{Measures, is, falls, and}
 use Rattle.net.proofs.scout.Reads as scout′
 use Rattle.net.proofs.scout.Kinds as scout-kinds
 use Rattle.net.proofs.+scout.Lts-scout as scout-lts
-use Rattle.net.proofs.add.Reads as add-reads
+use Rattle.pruning.proofs.add.Reads as add-reads
 use Rattle.net.proofs.after.Reads as after-reads
-use Rattle.net.proofs.is_dead.Reads as is-dead-reads
-use Rattle.net.proofs.narrow.Reads as narrow-reads
+use Rattle.pruning.proofs.is_dead.Reads as is-dead-reads
+use Rattle.pruning.proofs.narrow.Reads as narrow-reads
 use Rattle.net.proofs.next_end.Reads as next-end-reads
 use Rattle.words.proofs.end_of.Reads as end-of-reads
-use Rattle.net.proofs.passes.Reads as passes-reads
+use Rattle.pruning.proofs.passes.Reads as passes-reads
 use Rattle.net.proofs.states_of.Reads as states-of-reads
-use Rattle.net.proofs.strike.Reads as strike-reads
+use Rattle.pruning.proofs.strike.Reads as strike-reads
 use Rattle.net.proofs.widen.Reads as widen-reads
 use Rattle.net.proofs.+scout.{statement}
 use Rattle.net.proofs.+scout.Tie.{close}

@@ -3,7 +3,8 @@ use mathlib.Core.Path.{sym, ap, _∙_}
 use mathlib.Core.Logic.{⊎-elim}
 use Prim.Native.Nat.{ℕ, _+_, _-_, _<_}
 use native.Mathlib.Omega.{arith}
-use Rattle.net.specs.Bounds.{good, seen}
+use Rattle.pruning.specs.Bounds.{good}
+use Rattle.net.specs.Searching.{seen}
 use Rattle.net.proofs.Searching.{Known, few-states, small-weight, placed-taking, placed-leaving, ends-dead, ends-leaf, stepped-leaving, finds-with, Past, past-with, past-struck, finds-none, finds-without}
 use borrow.Author.Needs.{needs}
 use borrow.Fn.Kinds.{In}
@@ -11,16 +12,16 @@ use borrow.Fn.PlainCycle.{Measures, is, falls, and}
 use Rattle.net.proofs.search.Reads as search′
 use Rattle.net.proofs.search.Kinds as search-kinds
 use Rattle.net.proofs.+search.Lts-search as search-lts
-use Rattle.net.proofs.add.Reads as add-reads
+use Rattle.pruning.proofs.add.Reads as add-reads
 use Rattle.net.proofs.after.Reads as after-reads
-use Rattle.net.proofs.is_dead.Reads as is-dead-reads
+use Rattle.pruning.proofs.is_dead.Reads as is-dead-reads
 use Rattle.net.proofs.leaf.Reads as leaf-reads
-use Rattle.net.proofs.meets.Reads as meets-reads
+use Rattle.pruning.proofs.meets.Reads as meets-reads
 use Rattle.net.proofs.survey.Reads as survey-reads
-use Rattle.net.proofs.passes.Reads as passes-reads
+use Rattle.pruning.proofs.passes.Reads as passes-reads
 use Rattle.net.proofs.states_of.Reads as states-of-reads
 use Rattle.net.proofs.step.Reads as step-reads
-use Rattle.net.proofs.strike.Reads as strike-reads
+use Rattle.pruning.proofs.strike.Reads as strike-reads
 use Rattle.net.proofs.+search.{statement}
 use Rattle.net.proofs.+search.Tie.{close}
 

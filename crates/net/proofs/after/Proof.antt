@@ -2,7 +2,7 @@
 use mathlib.Core.Path.{sym, ap}
 use Prim.Native.Nat.{ℕ, _+_}
 use native.Mathlib.Omega.{arith}
-use Rattle.net.specs.Bounds.{said, seen}
+use Rattle.net.specs.Searching.{said, seen}
 use borrow.Author.Needs.{needs}
 use Rattle.net.proofs.after.Statement.{statement}
 use Rattle.net.proofs.after.Tie as tie

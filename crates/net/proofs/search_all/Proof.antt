@@ -2,7 +2,8 @@
 use mathlib.Core.Path.{ap}
 use native.Mathlib.Omega.{arith}
 use lib.Pow.{pow-pos}
-use Rattle.net.specs.Bounds.{good, seen}
+use Rattle.pruning.specs.Bounds.{good}
+use Rattle.net.specs.Searching.{seen}
 use Rattle.net.proofs.Searching.{few-states, placed-start, whole-none, whole-found}
 use borrow.Author.Needs.{needs}
 use Rattle.net.proofs.search_all.Statement.{statement}

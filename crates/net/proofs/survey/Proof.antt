@@ -1,8 +1,9 @@
 -- `survey`: the scout who finds nothing with the end has it struck. Assumes nothing.
 use mathlib.Core.Path.{ap}
 use native.Mathlib.Omega.{arith}
-use Rattle.net.specs.Bounds.{good, said, seen}
-use Rattle.net.proofs.Pruning.{keeps-then, probed-in}
+use Rattle.pruning.specs.Bounds.{good}
+use Rattle.net.specs.Searching.{said, seen}
+use Rattle.pruning.proofs.Pruning.{keeps-then, probed-in}
 use Rattle.net.proofs.Searching.{few-states}
 use borrow.Author.Needs.{needs}
 use Rattle.net.proofs.survey.Statement.{statement}

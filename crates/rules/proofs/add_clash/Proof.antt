@@ -4,7 +4,7 @@ use Prim.Native.Nat.{ℕ, _<_, _^_}
 use native.Mathlib.Omega.{arith}
 use lib.Pow.{pow-lt}
 use borrow.Author.Needs.{needs}
-use Rattle.net.specs.Net.{rule, obeys}
+use Rattle.pruning.specs.Net.{rule, obeys}
 use Rattle.rules.proofs.Rows.{added-same}
 use Rattle.rules.proofs.Kept.{clash-says}
 use Rattle.rules.proofs.add_clash.Statement.{statement}

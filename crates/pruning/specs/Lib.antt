@@ -1,0 +1,3 @@
+-- What the search promises: nets of rules and the sets that pass them, and the bounds by which it prunes.
+pub mod Net
+pub mod Bounds
