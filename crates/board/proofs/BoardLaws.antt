@@ -20,7 +20,7 @@ use Rattle.table.specs.Reading.{tableRead}
 use Rattle.table.proofs.Reading.{read-refused}
 use Rattle.rows.specs.Sets.{nth}
 use Rattle.rows.proofs.Sets.{member}
-use Rattle.flow.specs.declared.Offers.{Offers}
+use Rattle.rows.specs.declared.Offers.{Offers}
 use Rattle.ends.specs.declared.EndsAnswer.{EndsAnswer}
 use Rattle.ends.specs.declared.EndsAnswer.the-variants.{Good, Refused}
 use Rattle.seating.proofs.Rules.{Told}

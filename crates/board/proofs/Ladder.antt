@@ -22,7 +22,7 @@ use Rattle.marking.specs.declared.reading.MarkingAnswer.{MarkingAnswer}
 use Rattle.marking.specs.declared.reading.MarkingAnswer.the-variants.{Ended, Refused as NoMarking}
 use Rattle.rows.specs.Rows.{Rows, fine}
 use Rattle.flow.specs.Stages.{Input, Whole, onEdge}
-use Rattle.flow.specs.Struct.{rowsOf, Full}
+use Rattle.rows.specs.Struct.{rowsOf, Full}
 use Rattle.flow.proofs.Inputs.{good-flat}
 use Rattle.holding.specs.Holding.{HeldRead}
 use Rattle.holding.specs.TakenUp.{Held, Holding, LiveHeld}
@@ -30,7 +30,7 @@ use Rattle.holding.proofs.TakenUp.{refused-read, ended-read}
 use Rattle.ends.specs.declared.EndsAnswer.{EndsAnswer}
 use Rattle.ends.specs.declared.EndsAnswer.the-variants.{Good, Refused}
 use Rattle.ends.specs.Ends.{Listed, Arranged}
-use Rattle.flow.specs.declared.Offers.{Offers}
+use Rattle.rows.specs.declared.Offers.{Offers}
 use Rattle.board.specs.Starts.{Begun}
 use Rattle.board.specs.Reading.{Seats, Laid, BoardRead}
 use Rattle.board.proofs.StartLaws.{starts-are}

@@ -7,8 +7,8 @@ use lib.ListN.{length}
 use Rattle.paper.specs.Answers.{refused, good}
 use Rattle.paper.specs.Offers.{Offer}
 use Rattle.paper.specs.Choices.{board, Board}
-use Rattle.flow.specs.declared.Offers.{Offers}
-use Rattle.flow.specs.Struct.{rowsOf, Full}
+use Rattle.rows.specs.declared.Offers.{Offers}
+use Rattle.rows.specs.Struct.{rowsOf, Full}
 use Rattle.ends.specs.declared.EndsAnswer.{EndsAnswer}
 use Rattle.ends.specs.declared.EndsAnswer.the-variants.{Good, Refused}
 use Rattle.ends.specs.Ends.{Listed}

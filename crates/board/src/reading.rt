@@ -2,9 +2,9 @@
 use super::starts::first_offers;
 use ends::EndsAnswer;
 use flow::Built;
-use flow::Offers;
 use guards::GuardsAnswer;
 use marking::MarkingAnswer;
+use rows::Offers;
 use table::Table;
 ghost use mathlib.Core.Path.{_≡_};
 ghost use mathlib.Core.Bool.{true};
@@ -21,7 +21,7 @@ ghost use Rattle.table.specs.Reading.{tableRead};
 ghost use Rattle.ends.specs.declared.EndsAnswer.the-variants.{Refused};
 ghost use Rattle.rows.specs.Rows.{Ranges};
 ghost use Rattle.flow.specs.Stages.{Result, Whole, onEdge};
-ghost use Rattle.flow.specs.Struct.{rowsOf, Full};
+ghost use Rattle.rows.specs.Struct.{rowsOf, Full};
 ghost use Rattle.holding.specs.TakenUp.{held, HeldRoom, Holding, LiveHeld};
 ghost use Rattle.board.specs.Reading.{seats, SeatsRoom, BoardRead};
 

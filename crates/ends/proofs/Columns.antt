@@ -4,8 +4,8 @@ use mathlib.Core.List.{List}
 use Prim.Native.Nat.{ℕ, _≤_}
 use native.Mathlib.Omega.{arith}
 use Rattle.rows.specs.Rows.{Ranges}
-use Rattle.flow.specs.Struct.{rowsOf}
-use Rattle.flow.specs.declared.Offers.{Offers}
+use Rattle.rows.specs.Struct.{rowsOf}
+use Rattle.rows.specs.declared.Offers.{Offers}
 use Rattle.paths.specs.Blocks.{Seen}
 
 pub seen-struct : (o : Offers) (links : List ℕ) → Seen (rowsOf o links) (o .last) (o .paths) links

@@ -1,3 +1,2 @@
 -- What the builder of offers promises.
 pub mod Stages
-pub mod Struct

@@ -11,7 +11,7 @@ ghost use Rattle.paper.specs.Lists.{at, has, gather};
 ghost use Rattle.paper.specs.Bytes.{four};
 ghost use Rattle.table.specs.Reading.{Spans};
 ghost use Rattle.seating.specs.Seating.{Rowed};
-ghost use Rattle.losses.specs.Filling.{Filled};
+ghost use Rattle.holding.specs.Filling.{Filled};
 ghost use Rattle.gains.specs.Gains.{brought, coming, Brought, starts};
 
 // Room for the values of 20 ends.

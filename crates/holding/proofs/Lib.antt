@@ -1,3 +1,4 @@
 -- Laws of a marking that changes.
+pub mod Fillings
 pub mod HoldingLaws
 pub mod TakenUp

@@ -5,8 +5,8 @@ use Prim.Native.Nat.{ℕ}
 use Rattle.paper.specs.Answers.{judgedBy}
 use Rattle.paper.specs.Offers.{Offer}
 use Rattle.paper.specs.Choices.{Board, rules}
-use Rattle.flow.specs.Struct.{rowsOf}
-use Rattle.flow.specs.declared.Offers.{Offers}
+use Rattle.rows.specs.Struct.{rowsOf}
+use Rattle.rows.specs.declared.Offers.{Offers}
 use Rattle.seating.specs.Seating.{Seated, Columns}
 use Rattle.seating.proofs.Rules.{Told, rule1-rows, rule2-rows, rule3-rows}
 use Rattle.judge.specs.Judging.{rowRules}

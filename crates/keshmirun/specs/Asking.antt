@@ -5,7 +5,7 @@ use mathlib.Core.List.{List}
 use Rattle.paper.specs.Answers.{Answer, refused, good}
 use Rattle.paper.specs.Choices.{Board, board, howMany}
 use Rattle.paper.specs.Operations.{Leaves, Only, packed, sheet, Pick, step}
-use Rattle.flow.specs.declared.Offers.{Offers}
+use Rattle.rows.specs.declared.Offers.{Offers}
 use Rattle.ends.specs.declared.EndsAnswer.{EndsAnswer}
 use Rattle.holding.specs.TakenUp.{Held}
 use Rattle.board.specs.Reading.{Seats, BoardRead}

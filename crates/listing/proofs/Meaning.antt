@@ -14,8 +14,8 @@ use Rattle.paper.proofs.Orders.{sort-length}
 use Rattle.wire.proofs.Runs.{gather-same, part-length}
 use Rattle.rows.specs.Sets.{nth}
 use Rattle.rows.specs.Rows.{Holds, valueOf}
-use Rattle.flow.specs.declared.Offers.{Offers}
-use Rattle.flow.specs.Struct.{rowsOf}
+use Rattle.rows.specs.declared.Offers.{Offers}
+use Rattle.rows.specs.Struct.{rowsOf}
 use Rattle.ends.specs.Ends.{Stored, Listed}
 use Rattle.listing.specs.Listing.{valueShown, pathShown, pathOf, endShown, sheetShown, Measured}
 use Prim.Native.Nat.{compare}

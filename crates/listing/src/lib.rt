@@ -1,6 +1,6 @@
 // Writing a sheet: its size first, then its bytes, front to back.
 // Ends and paths stand in lent columns, which hold what is read of them (`Measured`, `Shows`).
-use flow::Offers;
+use rows::Offers;
 ghost use mathlib.Core.Path.{_≡_};
 ghost use mathlib.Core.List.{[], _∷_, _++_};
 ghost use Prim.Native.Nat.{ℕ, _+_, _*_, _-_, _≤_, _<_};

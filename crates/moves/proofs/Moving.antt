@@ -23,7 +23,7 @@ use Rattle.paper.proofs.Tables.{GoodTable, upper-fits}
 use Rattle.wire.proofs.Runs.{gather-same}
 use Rattle.rows.specs.Sets.{nth}
 use Rattle.rows.specs.Rows.{valueOf}
-use Rattle.flow.specs.declared.Offers.{Offers}
+use Rattle.rows.specs.declared.Offers.{Offers}
 use Rattle.table.specs.declared.Table.{Table}
 use Rattle.table.specs.Reading.{Spans}
 use Rattle.marking.specs.Values.{ValuesNoted}
@@ -32,8 +32,9 @@ use Rattle.seating.specs.Seating.{makes}
 use Rattle.seating.proofs.Numbers.{any-below-alike}
 use Rattle.seating.proofs.Taking.{any-ends, spent-rows}
 use Rattle.seating.proofs.Rules.{target-row, served-rows}
-use Rattle.losses.specs.Filling.{Filled}
-use Rattle.losses.specs.Losses.{spendsRow, spends, goes, closes}
+use Rattle.holding.specs.Filling.{Filled}
+use Rattle.spending.specs.Spending.{spendsRow, spends, goes}
+use Rattle.closing.specs.Closing.{closes}
 use Rattle.gains.specs.Gains.{brought, coming, Brought, starts}
 use Rattle.moves.specs.Moves.{Lends, Ready}
 use Rattle.gains.proofs.Gaining.{coming-most, before-more, before-most}

@@ -11,8 +11,8 @@ use Rattle.paper.specs.Offers.{Offer}
 use Rattle.paper.specs.Choices.{Board}
 use Rattle.table.specs.declared.Table.{Table}
 use Rattle.holding.specs.Holding.{NodesHeld, EdgesHeld}
-use Rattle.flow.specs.declared.Offers.{Offers}
-use Rattle.flow.specs.Struct.{rowsOf}
+use Rattle.rows.specs.declared.Offers.{Offers}
+use Rattle.rows.specs.Struct.{rowsOf}
 use Rattle.seating.specs.Seating.{Seated, Rowed, Columns}
 
 -- what is lent is long enough, ends are rows, their targets nodes, and no stock stands past all bytes

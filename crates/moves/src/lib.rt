@@ -10,7 +10,7 @@ ghost use Rattle.paper.specs.Answers.{good};
 ghost use Rattle.paper.specs.Offers.{Offer};
 ghost use Rattle.paper.specs.Choices.{Board, next};
 ghost use Rattle.table.specs.Reading.{tableRead};
-ghost use Rattle.flow.specs.declared.Offers.{Offers};
+ghost use Rattle.rows.specs.declared.Offers.{Offers};
 ghost use Rattle.writing.specs.Writing.{Becomes, Sources};
 ghost use Rattle.moves.specs.Moves.{Room, Lends, Ready};
 
@@ -46,14 +46,14 @@ pub fn advance(
         × (r ≡ oneIf (next d c .ended))) ⌝ }
 {
     let made = seating::all_makers(makers, ends, n, c);
-    losses::spend_tokens(table, last, parents, rows, made, tokens);
-    losses::spend_stocks(t, table, last, parents, rows, made, from, kept);
+    spending::spend_tokens(table, last, parents, rows, made, tokens);
+    spending::spend_stocks(t, table, last, parents, rows, made, from, kept);
     gains::gain_nodes(table, target, valued, value, ends, n, c, extra, place, more);
     gains::run_actions(t, table, target, home, n, c, runs);
-    if !losses::is_closing(t, table, target, n, c) {
+    if !closing::is_closing(t, table, target, n, c) {
         return 0;
     }
-    losses::clear_nodes(t, table, kept, runs, more);
-    losses::clear_edges(table, tokens);
+    closing::clear_nodes(t, table, kept, runs, more);
+    closing::clear_edges(table, tokens);
     1
 }

@@ -2,18 +2,16 @@
 use Prim.Native.Nat.{ℕ, _+_, _*_, _-_, _%_, _^_, _≤_, _<_}
 use mathlib.Core.Path.{_≡_}
 use mathlib.Core.Bool.{Bool, true, false}
-use mathlib.Core.Option.{Option, none, some}
 use Rattle.paper.proofs.Search.{look}
 use Rattle.pruning.specs.declared.Bounds.{Bounds}
 use Rattle.net.specs.declared.Place.{Place}
-use Rattle.net.specs.declared.View.{View}
-use Rattle.net.specs.declared.Visit.{Visit}
-use Rattle.net.specs.declared.Visit.the-variants.{Choice, Nothing}
+use Rattle.scouting.specs.declared.Visit.{Visit}
+use Rattle.scouting.specs.Scouting.{said, seen}
 use Rattle.pruning.specs.Net.{passes, Net}
 use Rattle.paper.specs.Choices.{FirstOf}
 use Rattle.net.specs.declared.Found.{Found}
 use Rattle.net.specs.declared.Found.the-variants.{Choice as Found·Choice, Nothing as Found·Nothing}
-use Rattle.pruning.specs.Bounds.{Between, Keeps, NoneIn}
+use Rattle.pruning.specs.Bounds.{Between}
 
 -- ---- the first set of m ends that passes, or that none does
 unfoldable pub Answers : Net → ℕ → Found → Type 0
@@ -34,26 +32,6 @@ pub record Placed (m left : ℕ) (p : Place) : Type 0 where
 -- the next end, and `end` is taken
 abbrev pub stepped : Place → ℕ → Place
 stepped p end = record { bit = p .bit * 2; taken = p .taken + end }
-
-abbrev pub said : Visit → Option ℕ
-said (Choice c n) = some c
-said (Nothing n) = none
-
-abbrev pub seen : Visit → ℕ
-seen (Choice c n) = n
-seen (Nothing n) = n
-
--- a scout who finds nothing is right; trying `left` ends at most, it visits a state at least, and no more than all
-pub record Scouted (passing : ℕ → Bool) (left : ℕ) (b : Bounds) (v : Visit) : Type 0 where
-  pub sure : said v ≡ none → NoneIn passing b
-  pub some-seen : 1 ≤ seen v
-  pub most-seen : seen v < 2 ^ (left + 1)
-
--- what is known before an end is tried, by a scout at most
-pub record Surveyed (passing : ℕ → Bool) (end : ℕ) (b : Bounds) (v : View) : Type 0 where
-  pub keeps : (k : ℕ) → end ≡ 2 ^ k → Keeps passing b (v .low)
-  pub some-seen : 1 ≤ v .states
-  pub most-seen : v .states ≤ 2097152
 
 -- the search from a place finds what `look`, the search through all sets, does, if all that pass lie between the bounds; and it visits a state at
 -- least, and for each part of the open ends no more than a survey does

@@ -1,17 +1,16 @@
 // The first set of ends that passes a net of rules. The search recurses on the number of ends still open, first choice first, and knows nothing but
-// the net and the ends that are wanted. What makes it fast is pruning, and scouting: before an end is taken that no set in view has, some set with it
-// is looked for in the order of the rules that lack ends, so that what can't be served is found out at once, however many ends stand before it.
-// Assumes nothing.
+// the net and the ends that are wanted. What makes it fast is pruning, and scouting. Assumes nothing.
 use pruning::Bounds;
-use pruning::Rule;
 use pruning::Wanted;
+use scouting::Visit;
 ghost use mathlib.Core.Path.{_≡_};
 ghost use mathlib.Core.Bool.{cond};
 ghost use Prim.Native.Nat.{_+_, _^_, _≤_, _<_};
 ghost use Rattle.paper.proofs.Search.{look};
 ghost use Rattle.pruning.specs.Net.{netOf};
 ghost use Rattle.pruning.specs.Bounds.{good};
-ghost use Rattle.net.specs.Searching.{Answers, Placed, stepped, said, seen, Scouted, Surveyed, Visited};
+ghost use Rattle.scouting.specs.Scouting.{said, seen};
+ghost use Rattle.net.specs.Searching.{Answers, Placed, stepped, Visited};
 
 // The first set that passes, or that none does.
 pub enum Found {
@@ -24,179 +23,6 @@ struct Place {
     bit: u32,
     taken: u32,
 }
-
-// What a search found, and how many states it visited.
-enum Visit {
-    Choice(u32, usize),
-    Nothing(usize),
-}
-
-// What is known at a place: the bounds, a set in view, which is a hint that nothing relies on, and how many states it took to know.
-struct View {
-    low: Bounds,
-    hint: u32,
-    states: usize,
-}
-
-// ---- visits
-
-fn states_of(v: Visit) -> usize
-    ensures { λ r. ⌜ r ≡ seen v ⌝ }
-{
-    match v {
-        Visit::Choice(_, more) => more,
-        Visit::Nothing(more) => more,
-    }
-}
-
-// The same find, with the states visited before it.
-fn after(states: usize, v: Visit) -> Visit
-    requires { ⌜ states + seen v < 2 ^ 64 ⌝ }
-    ensures { λ r. ⌜ (said r ≡ said v) × (seen r ≡ states + seen v) ⌝ }
-{
-    match v {
-        Visit::Choice(c, more) => Visit::Choice(c, states + more),
-        Visit::Nothing(more) => Visit::Nothing(states + more),
-    }
-}
-
-// ---- scouting
-
-// The open ones of these ends, if fewer than so many of them are taken.
-fn lacked(ends: u32, least: u32, b: Bounds) -> u32 {
-    if least <= pruning::held(b.must, ends) {
-        return 0;
-    }
-    pruning::without(b.may, b.must) & ends
-}
-
-// The open ends of which a rule needs more, if it applies to all sets between the bounds.
-fn lacking(rule: Rule, b: Bounds) -> u32 {
-    if !pruning::meets(b.must, rule.when) {
-        return 0;
-    }
-    lacked(rule.only, rule.lo, b)
-}
-
-// The smaller of two sets that has an end.
-fn smaller(c: u32, d: u32) -> u32 {
-    if c == 0 {
-        return d;
-    }
-    if d == 0 {
-        return c;
-    }
-    if u32::count_ones(d) < u32::count_ones(c) {
-        return d;
-    }
-    c
-}
-
-// The end to try next: the first of the fewest that what is wanted or a rule needs more of; 32 if nothing lacks any. A hint: any end would do.
-fn next_end(net: &[u32], want: Wanted, b: Bounds) -> u32 {
-    let mut few = lacked(want.ends, want.least, b);
-    let n = pruning::size(net);
-    let mut i: usize = 0;
-    while i < n {
-        few = smaller(few, lacking(pruning::rule_at(net, i), b));
-        i += 1;
-    }
-    u32::trailing_zeros(few)
-}
-
-// The set with these ends too, if it passes.
-fn joined(net: &[u32], want: Wanted, c: u32, ends: u32) -> u32 {
-    if pruning::passes(net, want, c | ends) {
-        return c | ends;
-    }
-    c
-}
-
-// A set between the bounds with as many ends as join it one by one, the first of them first. A hint: the search comes to it sooner.
-fn widen(net: &[u32], want: Wanted, m: usize, b: Bounds) -> u32
-    requires { ⌜ m ≤ 20 ⌝ }
-{
-    let mut c = b.must;
-    let mut k: usize = 0;
-    while k < m {
-        c = joined(net, want, c, b.may & words::end_of(k));
-        k += 1;
-    }
-    c
-}
-
-// Looks for some set that passes between the bounds, trying at most so many ends. Only 'nothing' is sure.
-fn scout(net: &[u32], want: Wanted, m: usize, left: usize, b: Bounds) -> Visit
-    requires { ⌜ (m ≤ 20) × (left ≤ 20) ⌝ }
-    ensures { λ r. ⌜ Scouted (good (now (net .entry)) want) left b r ⌝ }
-{
-    let low = pruning::narrow(net, want, m, b);
-    if pruning::is_dead(net, want, low) {
-        return Visit::Nothing(1);
-    }
-    if pruning::passes(net, want, low.may) {
-        return Visit::Choice(low.may, 1);
-    }
-    let k = next_end(net, want, low);
-    if left == 0 || k >= 32 {
-        return Visit::Choice(widen(net, want, m, low), 1);
-    }
-    let end = words::end_of(k as usize);
-    let f = scout(net, want, m, left - 1, pruning::add(end, low));
-    if let Visit::Choice(c, more) = f {
-        return Visit::Choice(c, more + 1);
-    }
-    let tried = states_of(f) + 1;
-    let v = scout(net, want, m, left - 1, pruning::strike(end, low));
-    after(tried, v)
-}
-
-// Whether a set in view shows all that a survey could find: it passes, lies between the bounds, and has the end, if that is open.
-fn in_view(net: &[u32], want: Wanted, end: u32, hint: u32, b: Bounds) -> bool {
-    if pruning::meets(pruning::without(b.may, hint), end) {
-        return false;
-    }
-    if pruning::without(b.must, hint) != 0 || pruning::without(hint, b.may) != 0 {
-        return false;
-    }
-    pruning::passes(net, want, hint)
-}
-
-// What is known before an end is tried: it is struck where no set that passes has it. A set in view that has it spares the scout.
-fn survey(net: &[u32], want: Wanted, m: usize, end: u32, hint: u32, b: Bounds) -> View
-    requires { ⌜ m ≤ 20 ⌝ }
-    ensures { λ r. ⌜ Surveyed (good (now (net .entry)) want) end b r ⌝ }
-{
-    if in_view(net, want, end, hint, b) {
-        return View {
-            low: b,
-            hint: hint,
-            states: 1,
-        };
-    }
-    let low = pruning::narrow(net, want, m, b);
-    if !pruning::meets(pruning::without(low.may, hint), end) {
-        return View {
-            low: low,
-            hint: hint,
-            states: 1,
-        };
-    }
-    match scout(net, want, m, m, pruning::add(end, low)) {
-        Visit::Choice(c, more) => View {
-            low: low,
-            hint: c,
-            states: more + 1,
-        },
-        Visit::Nothing(more) => View {
-            low: pruning::strike(end, low),
-            hint: hint,
-            states: more + 1,
-        },
-    }
-}
-
-// ---- the search
 
 // One end less is open: taken, if `end` is its weight, and left, if that is 0.
 fn step(p: Place, end: u32) -> Place
@@ -224,7 +50,7 @@ fn search(net: &[u32], want: Wanted, m: usize, left: usize, p: Place, b: Bounds,
     requires { ⌜ (m ≤ 20) × Placed m left p ⌝ }
     ensures { λ r. ⌜ Visited (good (now (net .entry)) want) m left p b r ⌝ }
 {
-    let view = survey(net, want, m, p.bit, hint, b);
+    let view = scouting::survey(net, want, m, p.bit, hint, b);
     let low = view.low;
     if pruning::is_dead(net, want, low) {
         return Visit::Nothing(view.states);
@@ -241,14 +67,14 @@ fn search(net: &[u32], want: Wanted, m: usize, left: usize, p: Place, b: Bounds,
         if let Visit::Choice(c, more) = f {
             return Visit::Choice(c, more + tried);
         }
-        tried = states_of(f) + tried;
+        tried = scouting::states_of(f) + tried;
         if pruning::meets(low.must, p.bit) {
             return Visit::Nothing(tried);
         }
     }
     let out = pruning::strike(p.bit, low);
     let v = search(net, want, m, fewer, step(p, 0), out, view.hint);
-    after(tried, v)
+    scouting::after(tried, v)
 }
 
 // The search over all sets of m ends.
@@ -261,8 +87,8 @@ fn search_all(net: &[u32], want: Wanted, m: usize) -> Visit
         must: 0,
         may: words::end_of(m) - 1,
     };
-    match scout(net, want, m, m, b) {
-        Visit::Choice(c, more) => after(more, search(net, want, m, m, p, b, c)),
+    match scouting::scout(net, want, m, m, b) {
+        Visit::Choice(c, more) => scouting::after(more, search(net, want, m, m, p, b, c)),
         Visit::Nothing(more) => Visit::Nothing(more),
     }
 }
@@ -283,5 +109,5 @@ pub fn states(net: &[u32], want: Wanted, m: usize) -> usize
     requires { ⌜ m ≤ 20 ⌝ }
     ensures { λ r. ⌜ (1 ≤ r) × (r < 2 ^ (m + 22)) ⌝ }
 {
-    states_of(search_all(net, want, m))
+    scouting::states_of(search_all(net, want, m))
 }

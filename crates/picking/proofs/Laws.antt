@@ -17,7 +17,7 @@ use Rattle.paper.proofs.Picks.{searchedOn, search-picks}
 use Rattle.table.specs.declared.Table.{Table}
 use Rattle.table.specs.Reading.{tableRead}
 use Rattle.table.proofs.Reading.{read-spans}
-use Rattle.flow.specs.declared.Offers.{Offers}
+use Rattle.rows.specs.declared.Offers.{Offers}
 use Rattle.net.specs.declared.Found.{Found}
 use Rattle.net.specs.declared.Found.the-variants.{Choice, Nothing}
 use Rattle.rows.specs.Rows.{Rows}

@@ -3,8 +3,8 @@ use Prim.Native.Nat.{ℕ, _≤_, _<_}
 use mathlib.Core.List.{List}
 use Rattle.paper.specs.Lists.{at}
 use Rattle.paper.specs.Table.{edges}
-use Rattle.flow.specs.declared.Offers.{Offers}
-use Rattle.flow.specs.Struct.{Full}
+use Rattle.rows.specs.declared.Offers.{Offers}
+use Rattle.rows.specs.Struct.{Full}
 use Rattle.seating.specs.Seating.{Rowed}
 
 pub record Pickable (t : List ℕ) (o : Offers) (ends : List ℕ) (n : ℕ) : Type 0 where

@@ -12,15 +12,15 @@ ghost use Rattle.paper.specs.Offers.{Offer};
 ghost use Rattle.paper.specs.Choices.{Board, howMany, acceptable};
 ghost use Rattle.paper.specs.Operations.{Leaves, wanted, PickOn};
 ghost use Rattle.table.specs.Reading.{tableRead};
-ghost use Rattle.flow.specs.Struct.{rowsOf};
+ghost use Rattle.rows.specs.Struct.{rowsOf};
 ghost use Rattle.seating.specs.Seating.{Seated};
 ghost use Rattle.seating.proofs.Rules.{Told};
 ghost use Rattle.pruning.specs.Net.{held};
 ghost use Rattle.rules.specs.Rules.{holds, Answered};
 ghost use Rattle.picking.specs.Picking.{Pickable};
-use flow::Offers;
 use net::Found;
 use pruning::Wanted;
+use rows::Offers;
 use table::Table;
 
 // What the search is asked: a net of so many rules, and the ends that are wanted.

@@ -44,6 +44,19 @@ pub const MOST_OFFERS: usize = 64;
 
 pub const MOST_PATHS: usize = 8;
 
+// The list of offers: a row each. What their paths go on from stands beside it, as only the ends' paths are read from there.
+pub struct Offers {
+    pub last: [u8; 64],
+    pub node: [u8; 64],
+    pub has: [u8; 64],
+    pub value: [u32; 64],
+    pub paths: [u8; 64],
+    pub parents: [u64; 64],
+    pub makers: [u64; 64],
+    pub foes: [u64; 64],
+    pub count: usize,
+}
+
 // One row at the end.
 fn push(
     rows: &mut [u64],

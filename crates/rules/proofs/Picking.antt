@@ -10,8 +10,8 @@ use Rattle.paper.specs.Table.{kind, upper}
 use Rattle.paper.specs.Offers.{Offer}
 use Rattle.paper.specs.Choices.{Board, howMany}
 use Rattle.paper.specs.Operations.{named, wanted}
-use Rattle.flow.specs.Struct.{rowsOf}
-use Rattle.flow.specs.declared.Offers.{Offers}
+use Rattle.rows.specs.Struct.{rowsOf}
+use Rattle.rows.specs.declared.Offers.{Offers}
 use Rattle.pruning.specs.Net.{held}
 use Rattle.pruning.specs.declared.Wanted.{Wanted}
 use Rattle.net.specs.declared.Found.{Found}

@@ -10,8 +10,8 @@ use Rattle.paper.specs.Table.{nodes, kind, isFork}
 use Rattle.paper.specs.Offers.{Offer}
 use Rattle.paper.specs.Choices.{Board, acceptable}
 use Rattle.paper.specs.Operations.{named, wanted}
-use Rattle.flow.specs.Struct.{rowsOf}
-use Rattle.flow.specs.declared.Offers.{Offers}
+use Rattle.rows.specs.Struct.{rowsOf}
+use Rattle.rows.specs.declared.Offers.{Offers}
 use Rattle.seating.specs.Seating.{Seated, Columns, rivalled, apart, passed, forks, served, fits, homes, allowed}
 use Rattle.seating.proofs.Numbers.{all-below-alike}
 use Rattle.seating.proofs.Rules.{Told, rule1-rows, rule2-rows, rule3-rows, served-rows}

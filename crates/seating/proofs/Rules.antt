@@ -19,8 +19,8 @@ use Rattle.paper.proofs.Counts.{any-keep}
 use Rattle.paper.proofs.Sameness.{elem-in, in-elem}
 use Rattle.rows.specs.Sets.{nth}
 use Rattle.rows.specs.Rows.{Row}
-use Rattle.flow.specs.Struct.{rowsOf}
-use Rattle.flow.specs.declared.Offers.{Offers}
+use Rattle.rows.specs.Struct.{rowsOf}
+use Rattle.rows.specs.declared.Offers.{Offers}
 use Rattle.rows.proofs.Sets.{member, number, meet}
 use Rattle.rows.proofs.Rows.{rows-compete}
 use Rattle.seating.specs.Seating.{Seated, Columns, rival, rivalled, apart, siblings, makes, kept, passed, forks, seats, served, actionFits, fits, homes}

@@ -19,8 +19,8 @@ use Rattle.paper.proofs.Bits.{no-digit}
 use Rattle.paper.proofs.Digits.{has-zero}
 use Rattle.rows.specs.Sets.{nth, Means}
 use Rattle.rows.specs.Rows.{isOffer}
-use Rattle.flow.specs.Struct.{rowsOf}
-use Rattle.flow.specs.declared.Offers.{Offers}
+use Rattle.rows.specs.Struct.{rowsOf}
+use Rattle.rows.specs.declared.Offers.{Offers}
 use Rattle.rows.proofs.Sets.{number}
 use Rattle.seating.specs.Seating.{Seated, makes}
 use Rattle.seating.proofs.Numbers.{any-below-alike, any-each, count-each, any-gather}

@@ -18,7 +18,7 @@ use Rattle.paper.proofs.OneMarking.{read-is-good, encode-fits}
 use Rattle.table.specs.declared.Table.{Table}
 use Rattle.table.specs.Reading.{tableRead}
 use Rattle.table.proofs.Reading.{read-spans, most-nodes}
-use Rattle.flow.specs.declared.Offers.{Offers}
+use Rattle.rows.specs.declared.Offers.{Offers}
 use Rattle.seating.specs.Seating.{Rowed, Columns}
 use Rattle.judge.specs.declared.Judged.{Judged}
 use Rattle.judge.specs.declared.Judged.the-variants.{Fine, Refused as Unfit}

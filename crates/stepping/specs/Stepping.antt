@@ -11,8 +11,8 @@ use Rattle.paper.specs.Marking.{encode, Good}
 use Rattle.paper.specs.Offers.{Offer}
 use Rattle.paper.specs.Choices.{Board, rules, next}
 use Rattle.paper.specs.Operations.{stepOf}
-use Rattle.flow.specs.declared.Offers.{Offers}
-use Rattle.flow.specs.Struct.{rowsOf, Full}
+use Rattle.rows.specs.declared.Offers.{Offers}
+use Rattle.rows.specs.Struct.{rowsOf, Full}
 use Rattle.seating.specs.Seating.{Seated, Columns}
 use Rattle.holding.specs.TakenUp.{Held, Holding}
 

@@ -1,8 +1,8 @@
 // A step on a board that was read: the choice read and judged, and the marking that it makes written.
 // The marking is held in lent slices, the board's offers and ends are lent as they were read (`Standing`).
 use choosing::ChoiceAnswer;
-use flow::Offers;
 use judge::Judged;
+use rows::Offers;
 use table::Table;
 ghost use mathlib.Core.Path.{_≡_};
 ghost use Prim.Native.Nat.{_≤_};
@@ -12,7 +12,7 @@ ghost use Rattle.paper.specs.Marking.{encode};
 ghost use Rattle.paper.specs.Choices.{next};
 ghost use Rattle.paper.specs.Operations.{Reply, inRoom};
 ghost use Rattle.table.specs.Reading.{tableRead};
-ghost use Rattle.flow.specs.Struct.{Full};
+ghost use Rattle.rows.specs.Struct.{Full};
 ghost use Rattle.judge.specs.Judging.{said, rowRules, Lent as Judgeable};
 ghost use Rattle.holding.specs.TakenUp.{held, HeldRoom};
 ghost use Rattle.stepping.specs.Stepping.{settled, chosen, Standing, Seen};

@@ -5,9 +5,9 @@ use mathlib.Core.Bool.{cond}
 use mathlib.Core.Logic.{⊎-elim}
 use native.Mathlib.Omega.{arith}
 use Rattle.paper.specs.Lists.{at}
-use Rattle.losses.specs.Filling.{Filled}
+use Rattle.holding.specs.Filling.{Filled}
 use Rattle.gains.specs.Gains.{starts}
-use Rattle.losses.proofs.Fillings.{filled-none, filled-set, filled-skip}
+use Rattle.holding.proofs.Fillings.{filled-none, filled-set, filled-skip}
 use borrow.Author.Needs.{needs}
 use Rattle.gains.proofs.run_actions.Statement.{statement}
 use Rattle.gains.proofs.run_actions.Tie as tie

@@ -1,7 +1,7 @@
 -- `first`: what the search through all sets finds is the first that passes. Assumes nothing.
 use mathlib.Core.Path.{sym, ap, _∙_}
 use Rattle.pruning.specs.Net.{netOf}
-use Rattle.net.specs.Searching.{said}
+use Rattle.scouting.specs.Scouting.{said}
 use Rattle.net.proofs.Searching.{answers-choice, answers-nothing}
 use borrow.Author.Needs.{needs}
 use Rattle.net.proofs.first.Statement.{statement}

@@ -3,8 +3,9 @@ use mathlib.Core.Path.{ap}
 use native.Mathlib.Omega.{arith}
 use lib.Pow.{pow-pos}
 use Rattle.pruning.specs.Bounds.{good}
-use Rattle.net.specs.Searching.{seen}
-use Rattle.net.proofs.Searching.{few-states, placed-start, whole-none, whole-found}
+use Rattle.scouting.specs.Scouting.{seen}
+use Rattle.scouting.proofs.Scouting.{few-states}
+use Rattle.net.proofs.Searching.{placed-start, whole-none, whole-found}
 use borrow.Author.Needs.{needs}
 use Rattle.net.proofs.search_all.Statement.{statement}
 use Rattle.net.proofs.search_all.Tie as tie

@@ -1,0 +1,2 @@
+-- Whether a step ends the marking.
+pub mod Closing

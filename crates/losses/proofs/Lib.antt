@@ -1,3 +1,0 @@
--- Laws of slices filled, and of what is spent.
-pub mod Fillings
-pub mod Spends

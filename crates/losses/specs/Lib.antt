@@ -1,3 +1,0 @@
--- What a step takes out of a marking.
-pub mod Filling
-pub mod Losses

@@ -1,0 +1,2 @@
+-- Laws of scouting.
+pub mod Scouting

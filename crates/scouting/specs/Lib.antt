@@ -1,0 +1,2 @@
+-- What scouting promises.
+pub mod Scouting

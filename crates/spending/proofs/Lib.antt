@@ -1,0 +1,2 @@
+-- Laws of what is spent.
+pub mod Spends

@@ -1,0 +1,2 @@
+-- What a step spends.
+pub mod Spending
