@@ -73,7 +73,7 @@ fn prepare(
     );
     Question {
         rules: rules,
-        want: rules::wanted(&target, &home, n, node),
+        want: wanting::wanted(&target, &home, n, node),
     }
 }
 

@@ -21,38 +21,13 @@ use Rattle.pruning.proofs.Sets.{meets-held}
 use Rattle.pruning.proofs.FourKinds.{clash-obeyed, need-obeyed, cap-obeyed}
 use Rattle.seating.specs.Seating.{rival, rivalled, makes, siblings, kept, seats, served}
 use Rattle.seating.proofs.Numbers.{any-below-alike}
+use Rattle.wanting.proofs.Masks.{meets-marks, held-marks, Owned, meets-served}
 use Rattle.rules.specs.Rules.{clashKept, forkKept, edgeKept, idleKept, pinKept, storeKept, nodeKept}
-
--- ---- a mask of the ends that pass
-pub marks-or : {p q : ℕ → Bool} {n a b : ℕ} → Marks p n a → Marks q n b → Marks (λ k. p k || q k) n (bitOr a b)
-marks-or {p} {q} {n} {a} {b} x y = record {
-  small = or-lt n a b (x .small) (y .small);
-  says = λ k l. has-or a b k ∙ ap₂ (λ (u v : Bool). u || v) (x .says k l) (y .says k l);
-}
-
-module _ {p : ℕ → Bool} {n w : ℕ} (h : Marks p n w) (c : ℕ) where
-  alike : (k : ℕ) → k < n → inBoth c w k ≡ has c k && p k
-  alike k l = ap (λ (b : Bool). has c k && b) (h .says k l)
-
-  meets-marks : meets n c w ≡ any (λ k. has c k && p k) (below n)
-  unfolding meets
-  meets-marks = any-below-alike (inBoth c w) (λ k. has c k && p k) n alike
-
-  held-marks : held n c w ≡ count (λ k. has c k && p k) (below n)
-  unfolding held
-  held-marks = count-below-same (inBoth c w) (λ k. has c k && p k) n alike
 
 -- those that have x in a column are counted
 held-seats : (column : List ℕ) (x n w c : ℕ) → Marks (λ k. eqb (at column k) x) n w → held n c w ≡ seats column n c x
 unfolding seats
 held-seats column x n w c h = held-marks h c
-
-abbrev pub Owned : List ℕ → List ℕ → ℕ → ℕ → ℕ → Type 0
-Owned target home n i w = Marks (λ k. eqb (at target k) i || eqb (at home k) i) n w
-
-meets-served : (target home : List ℕ) (n i w c : ℕ) → Owned target home n i w → meets n c w ≡ served target home n c i
-unfolding served
-meets-served target home n i w c h = meets-marks h c
 
 -- ---- rule 1
 pub clash-says : (foes makers ends : List ℕ) (n k w c : ℕ) → k < n → Marks (rival foes makers ends k) n w
@@ -190,12 +165,3 @@ module _ (t target home runs stock : List ℕ) (n i c : ℕ) where
   pub no-store : (kind t i ≡ 2 → ⊥) → (kind t i ≡ 3 → ⊥) → isBuffer (kind t i) || isOutgoing (kind t i) ≡ false → nodeKept t target home runs stock n i c ≡ true
   unfolding nodeKept idleKept pinKept storeKept
   no-store na np s = rw (ne-eqb (kind t i) 2 na, ne-eqb (kind t i) 3 np, s)
-
--- ---- what is wanted
-pub wanted-none : (target home : List ℕ) (n c : ℕ) → leb 0 (held n c 0) ≡ not (named 255) || served target home n c 255
-wanted-none target home n c = le-leb 0 (held n c 0) (omega arith)
-
-pub wanted-some : (target home : List ℕ) (n i w c : ℕ) → (i ≡ 255 → ⊥) → Owned target home n i w
-    → leb 1 (held n c w) ≡ not (named i) || served target home n c i
-wanted-some target home n i w c ne o =
-    sym (meets-held n c w) ∙ meets-served target home n i w c o ∙ sym (rw (ne-eqb i 255 ne))

@@ -39,14 +39,6 @@ fn add(net: &mut [u32], k: usize, when: u32, only: u32, lo: u32, hi: u32) -> usi
     k + 1
 }
 
-// The ends that belong to node i: those at it, and if it is an action those at its pins.
-fn owned(target: &[u8], home: &[u8], n: usize, i: usize) -> u32
-    requires { ⌜ (n ≤ length (now target)) × (n ≤ length (now home)) × (n ≤ 20) ⌝ }
-    ensures { λ r. ⌜ Marks (λ k. eqb (at (now (target .entry)) k) i || eqb (at (now (home .entry)) k) i) n r ⌝ }
-{
-    seating::same(target, n, i) | seating::same(home, n, i)
-}
-
 // Rule 1: end k is taken with none of its rivals.
 fn add_clash(
     net: &mut [u32],
@@ -116,7 +108,7 @@ fn add_edge(
     add(
         net,
         count,
-        owned(target, home, n, i),
+        wanting::owned(target, home, n, i),
         seating::same(edge, n, e),
         1,
         1,
@@ -155,12 +147,12 @@ fn add_node(
         if runs[i] == 0 {
             return count;
         }
-        let own = owned(target, home, n, i);
+        let own = wanting::owned(target, home, n, i);
         return add(net, count, own, own, 0, 0);
     }
     let here = seating::same(target, n, i);
     if kind == Table::INPUT {
-        let own = owned(target, home, n, table.owner(t, i));
+        let own = wanting::owned(target, home, n, table.owner(t, i));
         return add(
             net,
             count,
@@ -298,20 +290,6 @@ pub fn fill(
 }
 
 // ---- the search
-
-// The ends of a named node, of which one at least is wanted; 255 names none.
-pub fn wanted(target: &[u8], home: &[u8], n: usize, node: u8) -> Wanted
-    requires { ⌜ (n ≤ length (now target)) × (n ≤ length (now home)) × (n ≤ 20) ⌝ }
-    ensures { λ r. ⌜ ((c : ℕ) → leb (r .least) (held n c (r .ends)) ≡ not (named node) || served (now (target .entry)) (now (home .entry)) n c node) ⌝ }
-{
-    if node == 255 {
-        return Wanted { ends: 0, least: 0 };
-    }
-    Wanted {
-        ends: owned(target, home, n, wire::wide(node)),
-        least: 1,
-    }
-}
 
 // The first set of n ends that obeys the rules of a net and holds what is wanted.
 pub fn first(net: &[u32], count: usize, want: Wanted, n: usize) -> Found

@@ -1,9 +1,9 @@
--- `rules::wanted` meets its contract: nothing, or one of the ends that belong to the node. Assumes nothing.
+-- `wanting::wanted` meets its contract: nothing, or one of the ends that belong to the node. Assumes nothing.
 use mathlib.Core.Path.{sym}
 use borrow.Author.Needs.{needs}
-use Rattle.rules.proofs.Kept.{wanted-none, wanted-some}
-use Rattle.rules.proofs.wanted.Statement.{statement}
-use Rattle.rules.proofs.wanted.Tie as tie
+use Rattle.wanting.proofs.Masks.{wanted-none, wanted-some}
+use Rattle.wanting.proofs.wanted.Statement.{statement}
+use Rattle.wanting.proofs.wanted.Tie as tie
 
 returns : tie.Need-returns
 returns c = λ x. let a = c .before .before .before .args in rw (c .if1 .taken) (wanted-none (a .target .now) (a .home .now) (a .n) x)

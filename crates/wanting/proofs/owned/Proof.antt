@@ -1,8 +1,8 @@
--- `rules::owned` meets its contract: the marks of two columns together. Assumes nothing.
+-- `wanting::owned` meets its contract: the marks of two columns together. Assumes nothing.
 use borrow.Author.Needs.{needs}
-use Rattle.rules.proofs.Kept.{marks-or}
-use Rattle.rules.proofs.owned.Statement.{statement}
-use Rattle.rules.proofs.owned.Tie as tie
+use Rattle.wanting.proofs.Masks.{marks-or}
+use Rattle.wanting.proofs.owned.Statement.{statement}
+use Rattle.wanting.proofs.owned.Tie as tie
 
 same-requires : tie.Need-same-requires
 same-requires c κs = search needs
