@@ -1,14 +1,14 @@
 -- Rows 5 to 8 of a good table, row by row: what the readers' answers make of the board. Assumes nothing.
 use Prim.Native.Nat.{ℕ, _≤_, _<_}
 use mathlib.Core.Path.{_≡_, refl, ap, _∙_}
-use mathlib.Core.Bool.{Bool, true, false, not}
+use mathlib.Core.Bool.{Bool, true, false}
 use mathlib.Core.List.{List}
 use lib.ListN.{length}
 use borrow.Author.Tests.{le-leb, lt-leb}
 use Rattle.paper.specs.Lists.{below, gather}
 use Rattle.paper.specs.Limits.{limits}
 use Rattle.paper.specs.Answers.{refused, good, _>>=_, need}
-use Rattle.paper.specs.Table.{nodes, edges, source}
+use Rattle.paper.specs.Table.{edges}
 use Rattle.paper.specs.Marking.{Marking, marking, Good as GoodMarking}
 use Rattle.paper.specs.Offers.{Offer, elem, goesOver, guardsFine, offers, ends, sizesFine}
 use Rattle.paper.specs.Choices.{Board, board, boardOf}

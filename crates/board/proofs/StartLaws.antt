@@ -5,10 +5,9 @@ use mathlib.Core.Bool.{Bool, true, false, cond}
 use mathlib.Core.List.{List, [], _∷_}
 use native.Mathlib.Omega.{arith}
 use lib.Dec.{eqb, ltb}
-use lib.ListN.{length, drop, set}
+use lib.ListN.{length, set}
 use borrow.Author.Tests.{le-leb, ne-eqb}
 use Rattle.paper.specs.Lists.{at}
-use Rattle.paper.specs.Bytes.{four}
 use Rattle.paper.specs.Table.{nodes, edges, kind, source, isObjectNode}
 use Rattle.paper.specs.Marking.{Marking, Good, counted, stockOf}
 use Rattle.paper.specs.Offers.{firsts}

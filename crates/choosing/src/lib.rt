@@ -2,7 +2,7 @@
 // Assumes no more than that there are at most 20 ends.
 ghost use mathlib.Core.Path.{_≡_};
 ghost use mathlib.Core.List.{_++_};
-ghost use Prim.Native.Nat.{_^_, _≤_, _<_};
+ghost use Prim.Native.Nat.{_≤_, _<_};
 ghost use lib.ListN.{length, drop};
 ghost use Rattle.paper.specs.Lists.{has};
 ghost use Rattle.paper.specs.Answers.{good};

@@ -4,7 +4,7 @@ use mathlib.Core.List.{List}
 use Prim.Native.Nat.{ℕ}
 use lib.ListN.{length}
 use Rattle.paper.specs.Lists.{oneIf}
-use Rattle.paper.specs.Answers.{refused, good}
+use Rattle.paper.specs.Answers.{good}
 use Rattle.paper.specs.Marking.{Marking, encode}
 use Rattle.paper.specs.Operations.{packed, inRoom, Reply}
 use Rattle.marking.specs.declared.values.ValuesAnswer.{ValuesAnswer}

@@ -8,7 +8,7 @@ use mathlib.Core.Option.{Option, none, some}
 use lib.Dec.{leb}
 use lib.ListN.{length, length-append}
 use borrow.Author.Tests.{leb-true, lt-ltb}
-use Rattle.paper.specs.Lists.{at, all, below, gather}
+use Rattle.paper.specs.Lists.{at, all, below}
 use Rattle.paper.specs.Answers.{Answer, refused, good}
 use Rattle.paper.specs.Bytes.{four}
 use Rattle.paper.specs.Limits.{limits}

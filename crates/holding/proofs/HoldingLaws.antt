@@ -6,7 +6,7 @@ use mathlib.Core.Bool.{Bool, true, false, not, _&&_, cond}
 use mathlib.Core.List.{List, [], _∷_, _++_}
 use mathlib.Core.Option.{Option, none, some}
 use lib.Dec.{ltb, eqb}
-use lib.ListN.{length, take, drop, set, length-drop, length-append}
+use lib.ListN.{length, drop, set, length-drop, length-append}
 use lib.Seq.{getD-set-same, getD-set-other, take-at, drop-cons}
 use borrow.Author.Tests.{eqb-true, eqb-false, ltb-true, lt-ltb, le-ltb}
 use Rattle.paper.specs.Lists.{at, gather, oneIf}

@@ -11,7 +11,7 @@ use lib.Count.{ones}
 use borrow.Author.Tests.{eq-eqb, ne-eqb, not-true, not-false}
 use Rattle.paper.specs.Lists.{at, has, below, all, any, keep, count, _⇒_}
 use Rattle.paper.specs.Table.{nodes, edges, kind, owner, target, into, inputs, isInput, isFork}
-use Rattle.paper.proofs.Lists.{all-below, below-all, lowest-none, lowest-some, all-fails}
+use Rattle.paper.proofs.Lists.{below-all, lowest-none, lowest-some, all-fails}
 use Rattle.paper.proofs.Counts.{count-below-same, count-most}
 use Rattle.pruning.specs.Net.{inBoth, held, meets}
 use Rattle.pruning.proofs.Sets.{held-word, meets-word}

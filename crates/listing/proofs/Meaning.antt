@@ -6,7 +6,7 @@ use mathlib.Core.List.{List, [], _∷_, _++_}
 use native.Mathlib.Omega.{arith}
 use lib.Dec.{eqb}
 use lib.ListN.{length, getD}
-use Rattle.paper.specs.Lists.{at, below, each, gather}
+use Rattle.paper.specs.Lists.{at, below, gather}
 use Rattle.paper.specs.Offers.{Offer, first, value, paths, lex, sortedPaths}
 use Rattle.paper.specs.Operations.{valueBytes, endBytes, sheetBytes}
 use Rattle.paper.proofs.Lengths.{each-below, gather-each}

@@ -25,7 +25,6 @@ use Rattle.net.specs.Searching.{Answers, Confined, Placed, stepped, Visi
 use Rattle.pruning.specs.Bounds.{Keeps, NoneIn}
 use Rattle.pruning.proofs.Sets.{has-all, meets-one}
 use Rattle.pruning.proofs.Rules.{passes-wider, first-same}
-use Rattle.pruning.proofs.Pruning.{none-after, probed-in}
 
 -- ---- the search through all sets, by the number of open ends
 look-none : (w : ℕ → Bool) (r k acc : ℕ) → acc < 2 ^ k → ((x : ℕ) → x < 2 ^ (k + r) → x % 2 ^ k ≡ acc → w x ≡ false) → look w r k acc ≡ none

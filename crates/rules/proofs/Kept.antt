@@ -5,18 +5,16 @@ use mathlib.Core.List.{List}
 use Prim.Native.Nat.{ℕ, _+_, _-_, _^_, _≤_, _<_}
 use native.Mathlib.Omega.{arith}
 use lib.Dec.{leb, eqb}
-use lib.Bits.{bitAnd, bitOr, or-lt, and-comm}
+use lib.Bits.{bitAnd, and-comm}
 use lib.Pow.{pow-lt}
 use borrow.Author.Tests.{eq-eqb, ne-eqb, lt-ltb, le-ltb, leb-true, leb-false, le-leb, lt-leb, eqb-true}
-use Rattle.paper.specs.Lists.{at, has, below, any, count, within, _⇒_}
+use Rattle.paper.specs.Lists.{at, has, below, any, within, _⇒_}
 use Rattle.paper.specs.Table.{nodes, kind, owner, lower, upper, target as targetOfEdge, isBuffer, isOutgoing}
-use Rattle.paper.specs.Operations.{named}
 use Rattle.paper.proofs.Bools.{and-true, and-both, iff}
-use Rattle.paper.proofs.Bits.{has-or, has-pow, meet-has, has-meet}
+use Rattle.paper.proofs.Bits.{has-pow, meet-has, has-meet}
 use Rattle.paper.proofs.Members.{any-in, in-any, in-below, below-in}
-use Rattle.paper.proofs.Counts.{count-below-same}
 use Rattle.rows.specs.Sets.{Marks}
-use Rattle.pruning.specs.Net.{rule, meets, held, inBoth, obeys}
+use Rattle.pruning.specs.Net.{rule, meets, held, obeys}
 use Rattle.pruning.proofs.Sets.{meets-held}
 use Rattle.pruning.proofs.FourKinds.{clash-obeyed, need-obeyed, cap-obeyed}
 use Rattle.seating.specs.Seating.{rival, rivalled, makes, siblings, kept, seats, served}

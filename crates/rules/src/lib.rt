@@ -2,17 +2,15 @@
 // leaves a fork, each edge into an action, and each node; a row that no end sets off is left out.
 // Words and numbers only: what they mean for offers is said by the laws of seating. Assumes no more than its `requires`.
 ghost use mathlib.Core.Path.{_≡_};
-ghost use mathlib.Core.Bool.{not, _&&_, _||_};
+ghost use mathlib.Core.Bool.{_&&_};
 ghost use Prim.Native.Nat.{ℕ, _+_, _-_, _^_, _≤_, _<_};
-ghost use lib.Dec.{leb, eqb};
+ghost use lib.Dec.{leb};
 ghost use lib.ListN.{length};
 ghost use Rattle.paper.specs.Lists.{at};
 ghost use Rattle.paper.specs.Answers.{good};
-ghost use Rattle.paper.specs.Operations.{named};
 ghost use Rattle.table.specs.Reading.{tableRead};
-ghost use Rattle.rows.specs.Sets.{Marks};
 ghost use Rattle.pruning.specs.Net.{rule, obeys, held};
-ghost use Rattle.seating.specs.Seating.{Rowed, served, allowed};
+ghost use Rattle.seating.specs.Seating.{Rowed, allowed};
 ghost use Rattle.rules.specs.Rules.{holds, Added, AddedUpto, Lent, Roomy, clashKept, forkKept, edgeKept, nodeKept, Answered};
 use net::Found;
 use pruning::Wanted;

@@ -1,7 +1,7 @@
 -- `call` hands on just the bytes that were read. Assumes nothing.
 use Prim.Native.Nat.{_+_, _*_}
 use native.Mathlib.Omega.{arith}
-use lib.ListN.{length, length-take}
+use lib.ListN.{length-take}
 use borrow.Author.Needs.{needs}
 use Rattle.vectors.proofs.call.Statement.{statement}
 use Rattle.vectors.proofs.call.Tie as tie

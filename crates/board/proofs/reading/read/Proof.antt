@@ -1,7 +1,6 @@
 -- `read`: row after row, each by what its reader answers. Assumes nothing.
 use mathlib.Core.Path.{sym, ap, _∙_}
 use native.Mathlib.Omega.{arith}
-use Rattle.paper.specs.Table.{nodes, edges}
 use Rattle.paper.specs.Offers.{guardsFine}
 use Rattle.paper.proofs.Ladders.{need-refused, need-passed}
 use Rattle.table.proofs.Reading.{read-spans}
