@@ -44,6 +44,13 @@ impl Lent {
     }
 }
 
+/// How many of so many random calls are made, or are to answer in some way: all, but where the engine's processor is emulated, many times slower,
+/// the part that `tools/cargo` asks for.
+pub fn share(calls: usize) -> usize {
+    let parts = std::env::var("KESHMIRUN_SHARE").map_or(1, |parts| parts.parse().unwrap());
+    calls.div_ceil(parts)
+}
+
 /// A room to lend for this reply: plenty, as it is, one byte short, or any small one.
 pub fn room(rng: &mut Rng, full: &Answer) -> usize {
     let exact = match full {
@@ -111,14 +118,16 @@ impl Seen {
         self.counts.iter().sum()
     }
 
-    /// Every one of these answers came at least so often, and a call in a thousand was left out at most.
+    /// Every one of these answers came at least so often (of all calls), and a call in a thousand was left out at most.
     pub fn assert_each(&self, least: usize, numbers: &[usize]) {
+        let least = share(least);
         assert!(numbers.iter().all(|&number| self.counts[number] >= least), "{self:?}");
         assert!(self.skipped * 1_000 <= self.calls(), "{self:?}");
     }
 
-    /// Every one of these refusals came at so many places.
+    /// Every one of these refusals came at so many places (of all calls).
     pub fn assert_places(&self, least: usize, numbers: &[usize]) {
+        let least = share(least);
         assert!(numbers.iter().all(|&number| self.places[number].len() >= least), "{self:?}");
     }
 }
