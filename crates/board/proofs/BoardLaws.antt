@@ -24,7 +24,7 @@ use Rattle.rows.specs.declared.Offers.{Offers}
 use Rattle.ends.specs.declared.EndsAnswer.{EndsAnswer}
 use Rattle.ends.specs.declared.EndsAnswer.the-variants.{Good, Refused}
 use Rattle.seating.proofs.Rules.{Told}
-use Rattle.holding.specs.TakenUp.{Held}
+use Rattle.holding.specs.declared.Held.{Held}
 use Rattle.board.specs.Reading.{Seats, Laid, BoardRead}
 
 -- ---- rows 1 to 8

@@ -25,7 +25,8 @@ use Rattle.flow.specs.Stages.{Input, Whole, onEdge}
 use Rattle.rows.specs.Struct.{rowsOf, Full}
 use Rattle.flow.proofs.Inputs.{good-flat}
 use Rattle.holding.specs.Holding.{HeldRead}
-use Rattle.holding.specs.TakenUp.{Held, Holding, LiveHeld}
+use Rattle.holding.specs.declared.Held.{Held}
+use Rattle.holding.specs.TakenUp.{Holding, LiveHeld}
 use Rattle.holding.proofs.TakenUp.{refused-read, ended-read}
 use Rattle.ends.specs.declared.EndsAnswer.{EndsAnswer}
 use Rattle.ends.specs.declared.EndsAnswer.the-variants.{Good, Refused}

@@ -13,7 +13,8 @@ use Rattle.ends.specs.declared.EndsAnswer.{EndsAnswer}
 use Rattle.ends.specs.declared.EndsAnswer.the-variants.{Good, Refused}
 use Rattle.ends.specs.Ends.{Listed}
 use Rattle.seating.specs.Seating.{Seated}
-use Rattle.holding.specs.TakenUp.{Held, Holding}
+use Rattle.holding.specs.declared.Held.{Held}
+use Rattle.holding.specs.TakenUp.{Holding}
 
 -- the slices lent for the ends in order, each a row of the offers, and for their paths in order, each in a block of 16 cells
 pub record Seats : Type 0 where

@@ -16,7 +16,8 @@ use Rattle.marking.specs.declared.reading.MarkingAnswer.{MarkingAnswer}
 use Rattle.marking.specs.declared.reading.MarkingAnswer.the-variants.{Ended, Refused}
 use Rattle.marking.specs.Values.{listedNodes}
 use Rattle.holding.specs.Holding.{HeldRead}
-use Rattle.holding.specs.TakenUp.{Held, LiveHeld}
+use Rattle.holding.specs.declared.Held.{Held}
+use Rattle.holding.specs.TakenUp.{LiveHeld}
 use Rattle.giving.specs.Giving.{giveOf}
 use Rattle.holding.proofs.TakenUp.{refused-read, ended-read}
 use Rattle.delivering.specs.Delivered.{delivered}

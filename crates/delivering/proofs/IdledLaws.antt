@@ -16,7 +16,8 @@ use Rattle.table.specs.declared.Table.{Table}
 use Rattle.table.specs.Reading.{Spans}
 use Rattle.holding.specs.Holding.{NodesHeld}
 use Rattle.giving.specs.Giving.{Fires}
-use Rattle.holding.specs.TakenUp.{Held, LiveHeld}
+use Rattle.holding.specs.declared.Held.{Held}
+use Rattle.holding.specs.TakenUp.{LiveHeld}
 use Rattle.holding.proofs.TakenUp.{live-good}
 use Rattle.delivering.specs.Delivered.{Deliverable, delivered}
 

@@ -17,7 +17,8 @@ use Rattle.table.proofs.Reading.{read-spans, most-nodes, most-edges}
 use Rattle.marking.specs.declared.reading.MarkingAnswer.{MarkingAnswer}
 use Rattle.marking.specs.declared.reading.MarkingAnswer.the-variants.{Live, Ended, Refused}
 use Rattle.holding.specs.Holding.{HeldRead}
-use Rattle.holding.specs.TakenUp.{Held, held, HeldRoom, LiveHeld}
+use Rattle.holding.specs.declared.Held.{Held}
+use Rattle.holding.specs.TakenUp.{held, HeldRoom, LiveHeld}
 
 module _ (t b from kept runs tokens : List ℕ) where
   by-refused : (o : Option Marking) (n p : ℕ) → HeldRead t b from kept runs tokens o (Refused n p) → (o ≡ none) × (n ≡ 5) × (p ≡ 0)

@@ -7,15 +7,10 @@ use mathlib.Core.Option.{some}
 use lib.ListN.{length}
 use Rattle.paper.specs.Table.{nodes, edges}
 use Rattle.paper.specs.Marking.{Marking, marking}
+use Rattle.holding.specs.declared.Held.{Held}
 use Rattle.holding.specs.Holding.{NodesHeld, EdgesHeld}
 
--- the slices lent for a marking: where each stock's values stand in its bytes and how many they are, what runs, and the counts
-pub record Held : Type 0 where
-  pub from : List ℕ
-  pub kept : List ℕ
-  pub runs : List ℕ
-  pub tokens : List ℕ
-
+-- four slices lent for a marking, as what it is held in
 abbrev pub held : List ℕ → List ℕ → List ℕ → List ℕ → Held
 held f k r o = record { from = f; kept = k; runs = r; tokens = o }
 

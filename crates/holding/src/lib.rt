@@ -16,6 +16,14 @@ ghost use Rattle.table.specs.Reading.{Spans, tableRead};
 ghost use Rattle.marking.specs.Reading.{NodesNoted, EdgesNoted};
 ghost use Rattle.holding.specs.Holding.{NodesHeld, EdgesHeld, HeldRead};
 
+// A marking that was taken up: where each stock's values stand in its bytes and how many they are, what runs, and the counts.
+pub struct Held {
+    pub from: [usize; Table::MOST_NODES],
+    pub kept: [u8; Table::MOST_NODES],
+    pub runs: [u8; Table::MOST_NODES],
+    pub tokens: [u8; Table::MOST_EDGES],
+}
+
 // The byte at a place, and the place behind it; a place past the end is no field's.
 fn byte_at(b: &[u8], place: usize) -> u8
     ensures { λ r. ⌜ (place < length (now (b .entry)) → r ≡ at (now (b .entry)) place) ⌝ }

@@ -9,7 +9,7 @@ use Rattle.paper.specs.Choices.{board}
 use Rattle.paper.specs.Operations.{sheet, step, PickOn, Pick, packed, inRoom, Reply, Leaves}
 use Rattle.table.specs.Reading.{tableRead}
 use Rattle.rows.specs.declared.Offers.{Offers}
-use Rattle.holding.specs.TakenUp.{Held}
+use Rattle.holding.specs.declared.Held.{Held}
 use Rattle.ends.specs.declared.EndsAnswer.{EndsAnswer}
 use Rattle.ends.specs.declared.EndsAnswer.the-variants.{Good, Refused}
 use Rattle.board.specs.Reading.{Seats, SeatsRoom, Laid}

@@ -7,7 +7,7 @@ use Rattle.paper.specs.Choices.{Board, board, howMany}
 use Rattle.paper.specs.Operations.{Leaves, Only, packed, sheet, Pick, step}
 use Rattle.rows.specs.declared.Offers.{Offers}
 use Rattle.ends.specs.declared.EndsAnswer.{EndsAnswer}
-use Rattle.holding.specs.TakenUp.{Held}
+use Rattle.holding.specs.declared.Held.{Held}
 use Rattle.board.specs.Reading.{Seats, BoardRead}
 use Rattle.keshmirun.specs.declared.asking.Request.{Request}
 use Rattle.keshmirun.specs.declared.asking.Request.the-variants.{Sheet, Pick as PickFor, Step, Count}

@@ -25,7 +25,7 @@ use Rattle.seating.specs.Seating.{Rowed, Seated}
 use Rattle.rules.specs.Rules.{Lent, Answered}
 use Rattle.choosing.specs.Choice.{numbers}
 use Rattle.choosing.proofs.Laws.{taken-numbers}
-use Rattle.holding.specs.TakenUp.{Held}
+use Rattle.holding.specs.declared.Held.{Held}
 use Rattle.board.specs.Reading.{Seats, SeatsRoom, Laid}
 use Rattle.board.proofs.BoardLaws.{laid-edges}
 use Rattle.picking.specs.Picking.{Pickable}

@@ -28,7 +28,8 @@ use Rattle.choosing.specs.Choice.{choiceRead}
 use Rattle.choosing.proofs.Laws.{refused-is, good-is, choice-is}
 use Rattle.moves.specs.Moves.{Room, Lends, Ready}
 use Rattle.moves.proofs.Calling.{target-nodes, stocks-end}
-use Rattle.holding.specs.TakenUp.{Held, held, HeldRoom}
+use Rattle.holding.specs.declared.Held.{Held}
+use Rattle.holding.specs.TakenUp.{held, HeldRoom}
 use Rattle.board.specs.Reading.{Seats, Laid}
 use Rattle.board.proofs.BoardLaws.{laid-edges}
 use Rattle.stepping.specs.Stepping.{settled, chosen, Standing, Seen}

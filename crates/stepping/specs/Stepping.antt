@@ -14,7 +14,8 @@ use Rattle.paper.specs.Operations.{stepOf}
 use Rattle.rows.specs.declared.Offers.{Offers}
 use Rattle.rows.specs.Struct.{rowsOf, Full}
 use Rattle.seating.specs.Seating.{Seated, Columns}
-use Rattle.holding.specs.TakenUp.{Held, Holding}
+use Rattle.holding.specs.declared.Held.{Held}
+use Rattle.holding.specs.TakenUp.{Holding}
 
 -- rows 10 to 12, and the marking after the choice c
 unfoldable pub settled : List ℕ → Board → ℕ → Answer (List ℕ)
