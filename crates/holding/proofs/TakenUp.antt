@@ -5,7 +5,6 @@ use mathlib.Core.Bool.{true}
 use mathlib.Core.List.{List}
 use mathlib.Core.Option.{Option, none, some}
 use native.Mathlib.Omega.{arith}
-use lib.ListN.{length}
 use Rattle.paper.specs.Answers.{good}
 use Rattle.paper.specs.Marking.{Marking, marking, Good}
 use Rattle.paper.proofs.Bytes.{Bytes}
@@ -18,7 +17,7 @@ use Rattle.marking.specs.declared.reading.MarkingAnswer.{MarkingAnswer}
 use Rattle.marking.specs.declared.reading.MarkingAnswer.the-variants.{Live, Ended, Refused}
 use Rattle.holding.specs.Holding.{HeldRead}
 use Rattle.holding.specs.declared.Held.{Held}
-use Rattle.holding.specs.TakenUp.{held, HeldRoom, LiveHeld}
+use Rattle.holding.specs.TakenUp.{held, HeldFull, HeldRoom, LiveHeld}
 
 module _ (t b from kept runs tokens : List ℕ) where
   by-refused : (o : Option Marking) (n p : ℕ) → HeldRead t b from kept runs tokens o (Refused n p) → (o ≡ none) × (n ≡ 5) × (p ≡ 0)
@@ -46,15 +45,15 @@ module _ (t b from kept runs tokens : List ℕ) where
 pub live-good : (t b : List ℕ) (y : Held) (l : LiveHeld t b y) → Bytes b → Good t (l .current)
 live-good t b y l u = read-is-good t b (l .current) u (l .is-read) .0
 
--- the rooms that an operation lends are enough
-pub lent-room : (t : List ℕ) {y : Table} → tableRead t ≡ good y → (f k r o : List ℕ) → length f ≡ 48 → length k ≡ 48 → length r ≡ 48 → length o ≡ 64 → HeldRoom t (held f k r o)
-lent-room t e f k r o a b c d =
+-- whole arrays have room for a marking of any table that was read
+pub full-room : (t : List ℕ) {y : Table} → tableRead t ≡ good y → {x : Held} → HeldFull x → HeldRoom t x
+full-room t e f =
     let s = read-spans t e in
     let n = most-nodes t e in
     let m = most-edges t e in
     record {
-      froms = omega (arith, s .nodes-read);
-      kepts = omega (arith, s .nodes-read);
-      runs-there = omega (arith, s .nodes-read);
-      tokens-there = omega (arith, s .edges-read);
+      froms = omega (arith, s .nodes-read, f .froms-full);
+      kepts = omega (arith, s .nodes-read, f .kepts-full);
+      runs-there = omega (arith, s .nodes-read, f .runs-full);
+      tokens-there = omega (arith, s .edges-read, f .tokens-full);
     }

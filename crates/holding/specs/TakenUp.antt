@@ -14,6 +14,13 @@ use Rattle.holding.specs.Holding.{NodesHeld, EdgesHeld}
 abbrev pub held : List ℕ → List ℕ → List ℕ → List ℕ → Held
 held f k r o = record { from = f; kept = k; runs = r; tokens = o }
 
+-- the arrays have the lengths that they are declared with, which their types as lists don't say
+pub record HeldFull (x : Held) : Type 0 where
+  pub froms-full : length (x .from) ≡ 48
+  pub kepts-full : length (x .kept) ≡ 48
+  pub runs-full : length (x .runs) ≡ 48
+  pub tokens-full : length (x .tokens) ≡ 64
+
 -- there is room for a marking
 pub record HeldRoom (t : List ℕ) (x : Held) : Type 0 where
   pub froms : nodes t ≤ length (x .from)

@@ -2,11 +2,12 @@
 // The table's bytes were read as a table.
 use board::Board;
 use ends::EndsAnswer;
+use holding::Held;
 use table::Table;
 ghost use mathlib.Core.Path.{_≡_};
 ghost use Rattle.paper.specs.Answers.{good};
 ghost use Rattle.table.specs.Reading.{tableRead};
-ghost use Rattle.holding.specs.TakenUp.{held, HeldRoom};
+ghost use Rattle.holding.specs.TakenUp.{HeldFull};
 ghost use Rattle.board.specs.Reading.{seats, SeatsRoom};
 ghost use Rattle.keshmirun.specs.Asking.{Responds, Read};
 
@@ -26,18 +27,15 @@ fn respond(
     request: Request,
     choice: &[u8],
     board: Board,
-    from: &mut [usize],
-    kept: &mut [u8],
-    runs: &mut [u8],
-    tokens: &mut [u8],
+    held: Held,
     ends: &[u8],
     order: &[u8],
     lens: &[u8],
     cells: &[u8],
     out: &mut [u8],
 ) -> u64
-    requires { ⌜ (tableRead (now t) ≡ good table) × HeldRoom (now t) (held (now from) (now kept) (now runs) (now tokens)) × SeatsRoom (seats (now ends) (now order) (now lens) (now cells)) × Read (now t) (now b) (board .offers) (held (now from) (now kept) (now runs) (now tokens)) (seats (now ends) (now order) (now lens) (now cells)) (board .answer) ⌝ }
-    ensures { λ r. ⌜ ((y : Read (now (t .entry)) (now (b .entry)) (board .offers) (held (now (from .entry)) (now (kept .entry)) (now (runs .entry)) (now (tokens .entry))) (seats (now (ends .entry)) (now (order .entry)) (now (lens .entry)) (now (cells .entry))) (board .answer)) → Responds request (now (t .entry)) (now (b .entry)) (y .guards) (now (choice .entry)) r (now (out .entry)) (now (out .exit))) ⌝ }
+    requires { ⌜ (tableRead (now t) ≡ good table) × HeldFull held × SeatsRoom (seats (now ends) (now order) (now lens) (now cells)) × Read (now t) (now b) (board .offers) held (seats (now ends) (now order) (now lens) (now cells)) (board .answer) ⌝ }
+    ensures { λ r. ⌜ ((y : Read (now (t .entry)) (now (b .entry)) (board .offers) held (seats (now (ends .entry)) (now (order .entry)) (now (lens .entry)) (now (cells .entry))) (board .answer)) → Responds request (now (t .entry)) (now (b .entry)) (y .guards) (now (choice .entry)) r (now (out .entry)) (now (out .exit))) ⌝ }
 {
     let answer = board.answer;
     let n = match answer {
@@ -46,41 +44,9 @@ fn respond(
     };
     match request {
         Request::Sheet => listing::show(board.offers, ends, order, lens, cells, n, out),
-        Request::Pick(node) => picking::pick(
-            t,
-            table,
-            board.offers,
-            ends,
-            n,
-            runs,
-            kept,
-            node,
-            out,
-        ),
-        Request::Step => stepping::step(
-            t,
-            table,
-            b,
-            choice,
-            board.offers,
-            ends,
-            n,
-            from,
-            kept,
-            runs,
-            tokens,
-            out,
-        ),
-        Request::Count(node) => picking::states(
-            t,
-            table,
-            board.offers,
-            ends,
-            n,
-            runs,
-            kept,
-            node,
-        ) as u64,
+        Request::Pick(node) => picking::pick(t, table, board.offers, ends, n, held, node, out),
+        Request::Step => stepping::step(t, table, b, choice, board.offers, ends, n, held, out),
+        Request::Count(node) => picking::states(t, table, board.offers, ends, n, held, node) as u64,
     }
 }
 
@@ -119,6 +85,12 @@ pub fn ask(
         &mut lens,
         &mut cells,
     );
+    let held = Held {
+        from: from,
+        kept: kept,
+        runs: runs,
+        tokens: tokens,
+    };
     respond(
         t,
         table,
@@ -126,10 +98,7 @@ pub fn ask(
         request,
         choice,
         board,
-        &mut from,
-        &mut kept,
-        &mut runs,
-        &mut tokens,
+        held,
         &ends,
         &order,
         &lens,

@@ -7,7 +7,7 @@ use native.Mathlib.Omega.{arith}
 use lib.ListN.{length}
 use Rattle.paper.specs.Lists.{at}
 use Rattle.paper.specs.Answers.{Answer, refused, good}
-use Rattle.paper.specs.Table.{nodes, edges, upper}
+use Rattle.paper.specs.Table.{edges, upper}
 use Rattle.paper.specs.Offers.{Offer}
 use Rattle.paper.specs.Choices.{Board, howMany, acceptable, FirstOf}
 use Rattle.paper.specs.Operations.{named, wanted, PickOn, packed, inRoom, Reply, Leaves}
@@ -26,6 +26,8 @@ use Rattle.rules.specs.Rules.{Lent, Answered}
 use Rattle.choosing.specs.Choice.{numbers}
 use Rattle.choosing.proofs.Laws.{taken-numbers}
 use Rattle.holding.specs.declared.Held.{Held}
+use Rattle.holding.specs.TakenUp.{HeldFull}
+use Rattle.holding.proofs.TakenUp.{full-room}
 use Rattle.board.specs.Reading.{Seats, SeatsRoom, Laid}
 use Rattle.board.proofs.BoardLaws.{laid-edges}
 use Rattle.picking.specs.Picking.{Pickable}
@@ -63,11 +65,12 @@ module _ {t : List ℕ} {x : Table} (e : tableRead t ≡ good x) {o : Offers} {e
   pub edges-in : (k : ℕ) → k < n → at (o .last) (at ends k) < x .edges
   edges-in k m = omega (arith, p .edges-inside k m, read-spans t e .edges-read)
 
-  pub lent : (edge target home runs stock : List ℕ) → n ≤ length edge → n ≤ length target → n ≤ length home → nodes t ≤ length runs → nodes t ≤ length stock
-      → Lent t x (o .node) (o .parents) (o .makers) (o .foes) ends edge target home runs stock (o .count) n
-  lent edge target home runs stock a b c r s =
+  pub lent : {y : Held} → HeldFull y → (edge target home : List ℕ) → n ≤ length edge → n ≤ length target → n ≤ length home
+      → Lent t x (o .node) (o .parents) (o .makers) (o .foes) ends edge target home (y .runs) (y .kept) (o .count) n
+  lent h edge target home a b c =
       let f = p .full in
       let q = read-spans t e in
+      let r = full-room t e h in
       record {
         good-table = e;
         makers-of = rowed-in (o .makers) (f .makers-full);
@@ -79,8 +82,8 @@ module _ {t : List ℕ} {x : Table} (e : tableRead t ≡ good x) {o : Offers} {e
         end-edges = a;
         end-targets = b;
         end-homes = c;
-        node-runs = omega (arith, q .nodes-read);
-        node-stocks = omega (arith, q .nodes-read);
+        node-runs = omega (arith, q .nodes-read, r .runs-there);
+        node-stocks = omega (arith, q .nodes-read, r .kepts);
       }
 
 -- ---- a board whose stocks are within upper

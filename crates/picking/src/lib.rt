@@ -7,17 +7,19 @@ ghost use Prim.Native.Nat.{ℕ, _+_, _^_, _≤_, _<_};
 ghost use lib.Dec.{leb};
 ghost use lib.ListN.{length};
 ghost use Rattle.paper.specs.Answers.{good};
-ghost use Rattle.paper.specs.Table.{nodes, upper};
+ghost use Rattle.paper.specs.Table.{upper};
 ghost use Rattle.paper.specs.Offers.{Offer};
 ghost use Rattle.paper.specs.Choices.{Board, howMany, acceptable};
 ghost use Rattle.paper.specs.Operations.{Leaves, wanted, PickOn};
 ghost use Rattle.table.specs.Reading.{tableRead};
-ghost use Rattle.rows.specs.Struct.{rowsOf};
-ghost use Rattle.seating.specs.Seating.{Seated};
+ghost use Rattle.rows.specs.Struct.{rowsOf, Full};
+ghost use Rattle.seating.specs.Seating.{Seated, allowed};
 ghost use Rattle.seating.proofs.Rules.{Told};
-ghost use Rattle.pruning.specs.Net.{held};
-ghost use Rattle.rules.specs.Rules.{holds, Answered};
+ghost use Rattle.holding.specs.TakenUp.{HeldFull};
+ghost use Rattle.pruning.specs.Net.{held as heldOf};
+ghost use Rattle.rules.specs.Rules.{Lent, Roomy, holds, Answered};
 ghost use Rattle.picking.specs.Picking.{Pickable};
+use holding::Held;
 use net::Found;
 use pruning::Wanted;
 use rows::Offers;
@@ -29,48 +31,67 @@ struct Question {
     want: Wanted,
 }
 
-// The net of a board, in a lent slice, and what is wanted of it.
+// The net of a board, in a lent slice, and how many rules it has: the columns of the offers and of the marking are lent for it.
+fn filled(
+    net: &mut [u32],
+    t: &[u8],
+    table: Table,
+    offers: Offers,
+    ends: &[u8],
+    edge: &[u8],
+    target: &[u8],
+    home: &[u8],
+    n: usize,
+    held: Held,
+) -> usize
+    requires { ⌜ Full offers × HeldFull held × (784 ≤ length (now net)) × Lent (now t) table (offers .node) (offers .parents) (offers .makers) (offers .foes) (now ends) (now edge) (now target) (now home) (held .runs) (held .kept) (offers .count) n ⌝ }
+    ensures { λ r. ⌜ (r ≤ 196) × (Roomy (now (t .entry)) (held .kept) → (c : ℕ) → holds (now (net .exit)) r n c ≡ allowed (now (t .entry)) (offers .node) (offers .parents) (offers .makers) (offers .foes) (now (ends .entry)) (now (edge .entry)) (now (target .entry)) (now (home .entry)) (held .runs) (held .kept) (offers .count) n c) ⌝ }
+{
+    let node = offers.node;
+    let parents = offers.parents;
+    let makers = offers.makers;
+    let foes = offers.foes;
+    let runs = held.runs;
+    let kept = held.kept;
+    rules::fill(
+        net,
+        t,
+        table,
+        &node,
+        &parents,
+        &makers,
+        &foes,
+        offers.count,
+        ends,
+        edge,
+        target,
+        home,
+        n,
+        &runs,
+        &kept,
+    )
+}
+
+// The net of a board, and what is wanted of it.
 fn prepare(
     t: &[u8],
     table: Table,
     offers: Offers,
     ends: &[u8],
     n: usize,
-    runs: &[u8],
-    stock: &[u8],
+    held: Held,
     node: u8,
     net: &mut [u32],
 ) -> Question
-    requires { ⌜ (tableRead (now t) ≡ good table) × Pickable (now t) offers (now ends) n × (nodes (now t) ≤ length (now runs)) × (nodes (now t) ≤ length (now stock)) × (784 ≤ length (now net)) ⌝ }
-    ensures { λ r. ⌜ (r .rules ≤ 196) × ((links : List ℕ) (d : Board) (ts : List Offer) → Seated (now (t .entry)) d (rowsOf offers links) ts (now (ends .entry)) n → Told (now (t .entry)) (d .current) (now (runs .entry)) (now (stock .entry)) → ((i : ℕ) → length (d .current .stock i) ≤ upper (now (t .entry)) i) → (c : ℕ) → holds (now (net .exit)) (r .rules) n c && leb (r .want .least) (held n c (r .want .ends)) ≡ wanted d node c) ⌝ }
+    requires { ⌜ (tableRead (now t) ≡ good table) × Pickable (now t) offers (now ends) n × HeldFull held × (784 ≤ length (now net)) ⌝ }
+    ensures { λ r. ⌜ (r .rules ≤ 196) × ((links : List ℕ) (d : Board) (ts : List Offer) → Seated (now (t .entry)) d (rowsOf offers links) ts (now (ends .entry)) n → Told (now (t .entry)) (d .current) (held .runs) (held .kept) → ((i : ℕ) → length (d .current .stock i) ≤ upper (now (t .entry)) i) → (c : ℕ) → holds (now (net .exit)) (r .rules) n c && leb (r .want .least) (heldOf n c (r .want .ends)) ≡ wanted d node c) ⌝ }
 {
     let last = offers.last;
     let mut edge = [0u8; ends::MOST_ENDS];
     let mut target = [0u8; ends::MOST_ENDS];
     let mut home = [0u8; ends::MOST_ENDS];
     seating::columns(t, table, &last, ends, n, &mut edge, &mut target, &mut home);
-    let from = offers.node;
-    let parents = offers.parents;
-    let makers = offers.makers;
-    let foes = offers.foes;
-    let rows = offers.count;
-    let rules = rules::fill(
-        net,
-        t,
-        table,
-        &from,
-        &parents,
-        &makers,
-        &foes,
-        rows,
-        ends,
-        &edge,
-        &target,
-        &home,
-        n,
-        runs,
-        stock,
-    );
+    let rules = filled(net, t, table, offers, ends, &edge, &target, &home, n, held);
     Question {
         rules: rules,
         want: wanting::wanted(&target, &home, n, node),
@@ -84,15 +105,14 @@ fn choose(
     offers: Offers,
     ends: &[u8],
     n: usize,
-    runs: &[u8],
-    stock: &[u8],
+    held: Held,
     node: u8,
 ) -> Found
-    requires { ⌜ (tableRead (now t) ≡ good table) × Pickable (now t) offers (now ends) n × (nodes (now t) ≤ length (now runs)) × (nodes (now t) ≤ length (now stock)) ⌝ }
-    ensures { λ r. ⌜ ((links : List ℕ) (d : Board) (ts : List Offer) → Seated (now (t .entry)) d (rowsOf offers links) ts (now (ends .entry)) n → Told (now (t .entry)) (d .current) (now (runs .entry)) (now (stock .entry)) → ((i : ℕ) → length (d .current .stock i) ≤ upper (now (t .entry)) i) → Answered (wanted d node) (howMany d) r) ⌝ }
+    requires { ⌜ (tableRead (now t) ≡ good table) × Pickable (now t) offers (now ends) n × HeldFull held ⌝ }
+    ensures { λ r. ⌜ ((links : List ℕ) (d : Board) (ts : List Offer) → Seated (now (t .entry)) d (rowsOf offers links) ts (now (ends .entry)) n → Told (now (t .entry)) (d .current) (held .runs) (held .kept) → ((i : ℕ) → length (d .current .stock i) ≤ upper (now (t .entry)) i) → Answered (wanted d node) (howMany d) r) ⌝ }
 {
     let mut net = [0u32; rules::CELLS];
-    let asked = prepare(t, table, offers, ends, n, runs, stock, node, &mut net);
+    let asked = prepare(t, table, offers, ends, n, held, node, &mut net);
     rules::first(&net, asked.rules, asked.want, n)
 }
 
@@ -103,15 +123,14 @@ pub fn states(
     offers: Offers,
     ends: &[u8],
     n: usize,
-    runs: &[u8],
-    stock: &[u8],
+    held: Held,
     node: u8,
 ) -> usize
-    requires { ⌜ (tableRead (now t) ≡ good table) × Pickable (now t) offers (now ends) n × (nodes (now t) ≤ length (now runs)) × (nodes (now t) ≤ length (now stock)) ⌝ }
+    requires { ⌜ (tableRead (now t) ≡ good table) × Pickable (now t) offers (now ends) n × HeldFull held ⌝ }
     ensures { λ r. ⌜ (1 ≤ r) × (r < 2 ^ (n + 22)) ⌝ }
 {
     let mut net = [0u32; rules::CELLS];
-    let asked = prepare(t, table, offers, ends, n, runs, stock, node, &mut net);
+    let asked = prepare(t, table, offers, ends, n, held, node, &mut net);
     rules::states(&net, asked.rules, asked.want, n)
 }
 
@@ -133,14 +152,13 @@ pub fn pick(
     offers: Offers,
     ends: &[u8],
     n: usize,
-    runs: &[u8],
-    stock: &[u8],
+    held: Held,
     node: u8,
     out: &mut [u8],
 ) -> u64
-    requires { ⌜ (tableRead (now t) ≡ good table) × Pickable (now t) offers (now ends) n × (nodes (now t) ≤ length (now runs)) × (nodes (now t) ≤ length (now stock)) ⌝ }
-    ensures { λ r. ⌜ ((links : List ℕ) (d : Board) (ts : List Offer) → Seated (now (t .entry)) d (rowsOf offers links) ts (now (ends .entry)) n → Told (now (t .entry)) (d .current) (now (runs .entry)) (now (stock .entry)) → ((i : ℕ) → length (d .current .stock i) ≤ upper (now (t .entry)) i) → Leaves (PickOn d node) r (now (out .entry)) (now (out .exit))) ⌝ }
+    requires { ⌜ (tableRead (now t) ≡ good table) × Pickable (now t) offers (now ends) n × HeldFull held ⌝ }
+    ensures { λ r. ⌜ ((links : List ℕ) (d : Board) (ts : List Offer) → Seated (now (t .entry)) d (rowsOf offers links) ts (now (ends .entry)) n → Told (now (t .entry)) (d .current) (held .runs) (held .kept) → ((i : ℕ) → length (d .current .stock i) ≤ upper (now (t .entry)) i) → Leaves (PickOn d node) r (now (out .entry)) (now (out .exit))) ⌝ }
 {
-    let found = choose(t, table, offers, ends, n, runs, stock, node);
+    let found = choose(t, table, offers, ends, n, held, node);
     conclude(found, n, node, out)
 }

@@ -29,7 +29,8 @@ use Rattle.choosing.proofs.Laws.{refused-is, good-is, choice-is}
 use Rattle.moves.specs.Moves.{Room, Lends, Ready}
 use Rattle.moves.proofs.Calling.{target-nodes, stocks-end}
 use Rattle.holding.specs.declared.Held.{Held}
-use Rattle.holding.specs.TakenUp.{held, HeldRoom}
+use Rattle.holding.specs.TakenUp.{HeldFull}
+use Rattle.holding.proofs.TakenUp.{full-room}
 use Rattle.board.specs.Reading.{Seats, Laid}
 use Rattle.board.proofs.BoardLaws.{laid-edges}
 use Rattle.stepping.specs.Stepping.{settled, chosen, Standing, Seen}
@@ -83,16 +84,16 @@ module _ (t : List ℕ) (d : Board) (n : ℕ) (q : n ≡ howMany d) (ks : List �
   settled-reply c e w out after h = rw (chosen-settles c e) h
 
 -- ---- rows 10 to 12, and the slices lent
-module _ {t b : List ℕ} {a : Table} (e : tableRead t ≡ good a) {o : Offers} {from kept runs tokens ends : List ℕ} {n : ℕ} (s : Standing t b o (held from kept runs tokens) ends n) where
+module _ {t b : List ℕ} {a : Table} (e : tableRead t ≡ good a) {o : Offers} {x : Held} {ends : List ℕ} {n : ℕ} (s : Standing t b o x ends n) where
   pub rowed : (column : List ℕ) → length column ≡ 64 → n ≤ length ends → Rowed ends n (length column)
   rowed column l m = record { many = m; each-inside = λ k h. omega (arith, s .seated .inside k h, s .seated .holds-ts .count-is, s .seated .holds-ts .fits) }
 
   pub edges-in : (k : ℕ) → k < n → at (o .last) (at ends k) < a .edges
   edges-in k l = omega (arith, s .end-edges k l, read-spans t e .edges-read)
 
-  module _ (h : HeldRoom t (held from kept runs tokens)) (m : n ≤ length ends) where
+  module _ (h : HeldFull x) (m : n ≤ length ends) where
     pub judgeable : (edge target home : List ℕ) → n ≤ length edge → n ≤ length target → n ≤ length home
-        → Judgeable t (o .node) (o .parents) (o .makers) (o .foes) ends edge target home runs kept a (o .count) n
+        → Judgeable t (o .node) (o .parents) (o .makers) (o .foes) ends edge target home (x .runs) (x .kept) a (o .count) n
     judgeable edge target home le lt lh = record {
       spans = read-spans t e;
       rows-node = omega (arith, s .full .nodes-full, s .seated .holds-ts .fits);
@@ -104,15 +105,15 @@ module _ {t b : List ℕ} {a : Table} (e : tableRead t ≡ good a) {o : Offers} 
       ends-edge = le;
       ends-target = lt;
       ends-home = lh;
-      nodes-runs = h .runs-there;
-      nodes-stock = h .kepts;
+      nodes-runs = full-room t e h .runs-there;
+      nodes-stock = full-room t e h .kepts;
     }
 
   module _ (edge target home : List ℕ) (k : Columns t (o .last) ends edge target home n) (c : ℕ) (r : Judged)
-      (h : said r ≡ judgedBy (rowRules t (o .node) (o .parents) (o .makers) (o .foes) ends edge target home runs kept (o .count) n) c) where
+      (h : said r ≡ judgedBy (rowRules t (o .node) (o .parents) (o .makers) (o .foes) ends edge target home (x .runs) (x .kept) (o .count) n) c) where
     verdict : judgedBy (rules (s .on)) c ≡ said r
     verdict =
-        judged-rows t (s .on) o (s .links) (s .trees) ends n c (s .seated) edge target home k runs kept
+        judged-rows t (s .on) o (s .links) (s .trees) ends n c (s .seated) edge target home k (x .runs) (x .kept)
         (record { running = s .holding .nodes-held .running; stocks = λ i l q. s .holding .nodes-held .stocks i l q .many })
         ∙ sym h
 
@@ -127,7 +128,7 @@ module _ {t b : List ℕ} {a : Table} (e : tableRead t ≡ good a) {o : Offers} 
 
   -- ---- the move
   module _ {target home : List ℕ} (v : Seen t o ends target home n) where
-    pub ready : Ready t (s .on) o (s .trees) b ends (v .edge) target home from kept runs tokens n
+    pub ready : Ready t (s .on) o (s .trees) b ends (v .edge) target home (x .from) (x .kept) (x .runs) (x .tokens) n
     ready = record {
       links = s .links;
       seated = s .seated;
@@ -139,10 +140,11 @@ module _ {t b : List ℕ} {a : Table} (e : tableRead t ≡ good a) {o : Offers} 
     }
 
     -- with fresh arrays for what is gained
-    pub room : HeldRoom t (held from kept runs tokens)
-        → Room t a (o .last) (o .parents) (o .makers) (o .has) (o .value) ends target home from kept runs tokens (replicate 80 0) (replicate 48 0) (replicate 48 0) (o .count) n
-    room h =
+    pub room : HeldFull x
+        → Room t a (o .last) (o .parents) (o .makers) (o .has) (o .value) ends target home (x .from) (x .kept) (x .runs) (x .tokens) (replicate 80 0) (replicate 48 0) (replicate 48 0) (o .count) n
+    room y =
         let f = read-spans t e in
+        let h = full-room t e y in
         record {
           few-rows = s .seated .holds-ts .fits;
           lasts = omega (arith, s .full .lasts-full, s .seated .holds-ts .fits);

@@ -1,6 +1,7 @@
 // A step on a board that was read: the choice read and judged, and the marking that it makes written.
-// The marking is held in lent slices, the board's offers and ends are lent as they were read (`Standing`).
+// The marking is held as it was taken up, the board's offers and ends are given as they were read (`Standing`).
 use choosing::ChoiceAnswer;
+use holding::Held;
 use judge::Judged;
 use rows::Offers;
 use table::Table;
@@ -14,7 +15,7 @@ ghost use Rattle.paper.specs.Operations.{Reply, inRoom};
 ghost use Rattle.table.specs.Reading.{tableRead};
 ghost use Rattle.rows.specs.Struct.{Full};
 ghost use Rattle.judge.specs.Judging.{said, rowRules, Lent as Judgeable};
-ghost use Rattle.holding.specs.TakenUp.{held, HeldRoom};
+ghost use Rattle.holding.specs.TakenUp.{HeldFull};
 ghost use Rattle.stepping.specs.Stepping.{settled, chosen, Standing, Seen};
 
 // Rows 10 to 12: what judging the choice c says, with the columns of the offers lent.
@@ -27,17 +28,18 @@ fn judged(
     target: &[u8],
     home: &[u8],
     n: usize,
-    runs: &[u8],
-    stock: &[u8],
+    held: Held,
     c: u32,
 ) -> Judged
-    requires { ⌜ Full offers × Judgeable (now t) (offers .node) (offers .parents) (offers .makers) (offers .foes) (now ends) (now edge) (now target) (now home) (now runs) (now stock) table (offers .count) n ⌝ }
-    ensures { λ r. ⌜ said r ≡ judgedBy (rowRules (now (t .entry)) (offers .node) (offers .parents) (offers .makers) (offers .foes) (now (ends .entry)) (now (edge .entry)) (now (target .entry)) (now (home .entry)) (now (runs .entry)) (now (stock .entry)) (offers .count) n) c ⌝ }
+    requires { ⌜ Full offers × HeldFull held × Judgeable (now t) (offers .node) (offers .parents) (offers .makers) (offers .foes) (now ends) (now edge) (now target) (now home) (held .runs) (held .kept) table (offers .count) n ⌝ }
+    ensures { λ r. ⌜ said r ≡ judgedBy (rowRules (now (t .entry)) (offers .node) (offers .parents) (offers .makers) (offers .foes) (now (ends .entry)) (now (edge .entry)) (now (target .entry)) (now (home .entry)) (held .runs) (held .kept) (offers .count) n) c ⌝ }
 {
     let node = offers.node;
     let parents = offers.parents;
     let makers = offers.makers;
     let foes = offers.foes;
+    let runs = held.runs;
+    let kept = held.kept;
     judge::judge(
         t,
         table,
@@ -51,8 +53,8 @@ fn judged(
         target,
         home,
         n,
-        runs,
-        stock,
+        &runs,
+        &kept,
         c,
     )
 }
@@ -68,20 +70,21 @@ fn moved(
     home: &[u8],
     n: usize,
     c: u32,
-    from: &mut [usize],
-    kept: &mut [u8],
-    runs: &mut [u8],
-    tokens: &mut [u8],
+    held: Held,
     out: &mut [u8],
 ) -> u64
-    requires { ⌜ (tableRead (now t) ≡ good table) × HeldRoom (now t) (held (now from) (now kept) (now runs) (now tokens)) × Standing (now t) (now b) offers (held (now from) (now kept) (now runs) (now tokens)) (now ends) n × Seen (now t) offers (now ends) (now target) (now home) n ⌝ }
-    ensures { λ r. ⌜ ((s : Standing (now (t .entry)) (now (b .entry)) offers (held (now (from .entry)) (now (kept .entry)) (now (runs .entry)) (now (tokens .entry))) (now (ends .entry)) n) → Reply (inRoom (length (now (out .entry))) (good (encode (now (t .entry)) (next (s .on) c)))) r (now (out .entry)) (now (out .exit))) ⌝ }
+    requires { ⌜ (tableRead (now t) ≡ good table) × HeldFull held × Standing (now t) (now b) offers held (now ends) n × Seen (now t) offers (now ends) (now target) (now home) n ⌝ }
+    ensures { λ r. ⌜ ((s : Standing (now (t .entry)) (now (b .entry)) offers held (now (ends .entry)) n) → Reply (inRoom (length (now (out .entry))) (good (encode (now (t .entry)) (next (s .on) c)))) r (now (out .entry)) (now (out .exit))) ⌝ }
 {
     let last = offers.last;
     let parents = offers.parents;
     let makers = offers.makers;
     let has = offers.has;
     let value = offers.value;
+    let mut from = held.from;
+    let mut kept = held.kept;
+    let mut runs = held.runs;
+    let mut tokens = held.tokens;
     let mut extra = [0u8; gains::ROOM];
     let mut place = [0usize; Table::MOST_NODES];
     let mut more = [0u8; Table::MOST_NODES];
@@ -99,10 +102,10 @@ fn moved(
         home,
         n,
         c,
-        from,
-        kept,
-        runs,
-        tokens,
+        &mut from,
+        &mut kept,
+        &mut runs,
+        &mut tokens,
         &mut extra,
         &mut place,
         &mut more,
@@ -112,13 +115,13 @@ fn moved(
         table,
         state,
         b,
-        from,
-        kept,
+        &from,
+        &kept,
         &extra,
         &place,
         &more,
-        runs,
-        tokens,
+        &runs,
+        &tokens,
         out,
     )
 }
@@ -132,14 +135,11 @@ fn settle(
     ends: &[u8],
     n: usize,
     c: u32,
-    from: &mut [usize],
-    kept: &mut [u8],
-    runs: &mut [u8],
-    tokens: &mut [u8],
+    held: Held,
     out: &mut [u8],
 ) -> u64
-    requires { ⌜ (tableRead (now t) ≡ good table) × HeldRoom (now t) (held (now from) (now kept) (now runs) (now tokens)) × (20 ≤ length (now ends)) × Standing (now t) (now b) offers (held (now from) (now kept) (now runs) (now tokens)) (now ends) n ⌝ }
-    ensures { λ r. ⌜ ((s : Standing (now (t .entry)) (now (b .entry)) offers (held (now (from .entry)) (now (kept .entry)) (now (runs .entry)) (now (tokens .entry))) (now (ends .entry)) n) → Reply (inRoom (length (now (out .entry))) (settled (now (t .entry)) (s .on) c)) r (now (out .entry)) (now (out .exit))) ⌝ }
+    requires { ⌜ (tableRead (now t) ≡ good table) × HeldFull held × (20 ≤ length (now ends)) × Standing (now t) (now b) offers held (now ends) n ⌝ }
+    ensures { λ r. ⌜ ((s : Standing (now (t .entry)) (now (b .entry)) offers held (now (ends .entry)) n) → Reply (inRoom (length (now (out .entry))) (settled (now (t .entry)) (s .on) c)) r (now (out .entry)) (now (out .exit))) ⌝ }
 {
     let last = offers.last;
     let mut edge = [0u8; ends::MOST_ENDS];
@@ -155,28 +155,12 @@ fn settle(
         &target,
         &home,
         n,
-        runs,
-        kept,
+        held,
         c,
     ) {
         return wire::pack(number, place, 0);
     }
-    moved(
-        t,
-        table,
-        b,
-        offers,
-        ends,
-        &target,
-        &home,
-        n,
-        c,
-        from,
-        kept,
-        runs,
-        tokens,
-        out,
-    )
+    moved(t, table, b, offers, ends, &target, &home, n, c, held, out)
 }
 
 // The choice among n ends is read (row 9), judged and taken.
@@ -188,31 +172,15 @@ pub fn step(
     offers: Offers,
     ends: &[u8],
     n: usize,
-    from: &mut [usize],
-    kept: &mut [u8],
-    runs: &mut [u8],
-    tokens: &mut [u8],
+    held: Held,
     out: &mut [u8],
 ) -> u64
-    requires { ⌜ (tableRead (now t) ≡ good table) × HeldRoom (now t) (held (now from) (now kept) (now runs) (now tokens)) × (20 ≤ length (now ends)) × Standing (now t) (now b) offers (held (now from) (now kept) (now runs) (now tokens)) (now ends) n ⌝ }
-    ensures { λ r. ⌜ ((s : Standing (now (t .entry)) (now (b .entry)) offers (held (now (from .entry)) (now (kept .entry)) (now (runs .entry)) (now (tokens .entry))) (now (ends .entry)) n) → Reply (inRoom (length (now (out .entry))) (chosen (now (t .entry)) (s .on) (now (choice .entry)))) r (now (out .entry)) (now (out .exit))) ⌝ }
+    requires { ⌜ (tableRead (now t) ≡ good table) × HeldFull held × (20 ≤ length (now ends)) × Standing (now t) (now b) offers held (now ends) n ⌝ }
+    ensures { λ r. ⌜ ((s : Standing (now (t .entry)) (now (b .entry)) offers held (now (ends .entry)) n) → Reply (inRoom (length (now (out .entry))) (chosen (now (t .entry)) (s .on) (now (choice .entry)))) r (now (out .entry)) (now (out .exit))) ⌝ }
 {
     let c = match choosing::read_choice(choice, n) {
         ChoiceAnswer::Good(c) => c,
         ChoiceAnswer::Refused(number, place) => return wire::pack(number, place, 0),
     };
-    settle(
-        t,
-        table,
-        b,
-        offers,
-        ends,
-        n,
-        c,
-        from,
-        kept,
-        runs,
-        tokens,
-        out,
-    )
+    settle(t, table, b, offers, ends, n, c, held, out)
 }

@@ -1,10 +1,9 @@
 -- `finish`: rows 5, 6 and 14, then what `conclude` leaves. Assumes nothing.
-use mathlib.Core.Path.{_≡_, refl, sym, ap, _∙_}
-use lib.ListN.{length}
+use mathlib.Core.Path.{refl, sym, ap, _∙_}
 use native.Mathlib.Omega.{arith}
 use Rattle.paper.proofs.Ladders.{need-passed}
 use Rattle.table.proofs.Reading.{read-spans, most-nodes, most-edges}
-use Rattle.holding.proofs.TakenUp.{live-read, lent-room}
+use Rattle.holding.proofs.TakenUp.{live-read, full-room}
 use Rattle.delivering.specs.Running.{said as saidOfRunning, runsIn}
 use Rattle.delivering.proofs.RunningLaws.{running-node}
 use Rattle.delivering.proofs.FinishLaws.{finish-5, finish-6, finish-14, finish-delivers}
@@ -102,12 +101,8 @@ conclude-requires c κs = let a = c .before .before .before .before .before .bef
     let u = c .before .before .before .before .before .before .before .before .before .before .before .before .before .before .before .before .take-up in
     let e = c .before .before .before .before .before .before .before .before .before .before .before .before .before .before .before .before .before .before .before .before .before .before .before .before .before .pre in
     let l = (live-read (a .t .now) (a .b .now) (u .last .1 .1 .1 .0) (u .last .1 .1 .1 .1 .0) (u .last .1 .1 .1 .1 .1 .0) (u .last .1 .1 .1 .1 .1 .1 .0) (u .result) (u .ensures) (c .before .before .before .before .before .before .before .before .before .before .enum-told .given .1)) in
-    let f : length (u .last .1 .1 .1 .0) ≡ 48 = omega (arith, u .kept) in
-    let k : length (u .last .1 .1 .1 .1 .0) ≡ 48 = omega (arith, u .kept) in
-    let r : length (u .last .1 .1 .1 .1 .1 .0) ≡ 48 = omega (arith, u .kept) in
-    let o : length (u .last .1 .1 .1 .1 .1 .1 .0) ≡ 64 = omega (arith, u .kept) in
     let n = need-passed 14 (runsIn (a .t .now) (l .current) (c .before .before .before .before .before .before .before .before .before .wide .result)) (sym (ap saidOfRunning (c .before .before .before .before .before .enum-told3 .given .1)) ∙ c .before .before .before .before .before .before .before .running .ensures (l .current) (l .holding .nodes-held .running)) in
-    (e, omega (arith, running-node (a .t .now) (l .current) (c .before .before .before .before .before .before .before .before .before .wide .result) n, read-spans (a .t .now) e .nodes-read), lent-room (a .t .now) e _ _ _ _ f k r o, l)
+    (e, omega (arith, running-node (a .t .now) (l .current) (c .before .before .before .before .before .before .before .before .before .wide .result) n, read-spans (a .t .now) e .nodes-read), full-room (a .t .now) e (record { froms-full = omega (arith, u .kept); kepts-full = omega (arith, u .kept); runs-full = omega (arith, u .kept); tokens-full = omega (arith, u .kept) }), l)
 
 same-length : tie.Need-same-length
 same-length c = search needs

@@ -17,7 +17,7 @@ first-requires : tie.Need-first-requires
 first-requires c κs = search needs
 
 returns : tie.Need-returns
-returns c = λ links d ts s m r. found-on d (c .before .before .before .before .before .before .before .before .before .args .node) (c .before .before .before .before .before .before .before .before .before .args .n) (s .number) _ (c .before .before .before .prepare .ensures .1 links d ts s m r) (c .first .result) (c .first .ensures)
+returns c = λ links d ts s m r. found-on d (c .before .before .before .before .before .before .before .args .node) (c .before .before .before .before .before .before .before .args .n) (s .number) _ (c .before .before .before .prepare .ensures .1 links d ts s m r) (c .first .result) (c .first .ensures)
 
 pub choose-spec : {M : Type 1} → statement M
 choose-spec =

@@ -20,8 +20,8 @@ slice-aggregate-columns-4 : tie.Need-slice-aggregate-columns-4
 slice-aggregate-columns-4 c = search needs
 
 columns-requires : tie.Need-columns-requires
-columns-requires c κs = let a = c .before .before .before .before .before .before .before .before .before .before .before .before .before .args in
-    let h = c .before .before .before .before .before .before .before .before .before .before .before .before .before .pre in
+columns-requires c κs = let a = c .before .before .before .before .before .before .before .before .before .args in
+    let h = c .before .before .before .before .before .before .before .before .before .pre in
     let f = h .3 .seated .few in
     let m : a .n ≤ length (a .ends .now) = omega (arith, h .2, f) in
     (h .0, rowed (h .0) (h .3) (a .offers .last) (h .3 .full .lasts-full) m, edges-in (h .0) (h .3), f, f, f)
@@ -36,15 +36,15 @@ slice-aggregate-judged-3 : tie.Need-slice-aggregate-judged-3
 slice-aggregate-judged-3 c = search needs
 
 judged-requires : tie.Need-judged-requires
-judged-requires c κs = let a = c .before .before .before .before .before .before .before .before .before .before .before .before .before .before .before .before .before .before .before .before .before .before .args in
-    let h = c .before .before .before .before .before .before .before .before .before .before .before .before .before .before .before .before .before .before .before .before .before .before .pre in
+judged-requires c κs = let a = c .before .before .before .before .before .before .before .before .before .before .before .before .before .before .before .before .args in
+    let h = c .before .before .before .before .before .before .before .before .before .before .before .before .before .before .before .before .pre in
     let f = h .3 .seated .few in
     let m : a .n ≤ length (a .ends .now) = omega (arith, h .2, f) in
-    let s = c .before .before .before .before .before .before .before .before .columns in
+    let s = c .before .before .before .before .before .before .columns in
     let le : a .n ≤ length (s .last .1 .1 .1 .1 .1 .0) = omega (arith, f, s .kept) in
     let lt : a .n ≤ length (s .last .1 .1 .1 .1 .1 .1 .0) = omega (arith, f, s .kept) in
     let lh : a .n ≤ length (s .last .1 .1 .1 .1 .1 .1 .1 .0) = omega (arith, f, s .kept) in
-    (h .3 .full, judgeable (h .0) (h .3) (h .1) m (s .last .1 .1 .1 .1 .1 .0) (s .last .1 .1 .1 .1 .1 .1 .0) (s .last .1 .1 .1 .1 .1 .1 .1 .0) le lt lh)
+    (h .3 .full, h .1, judgeable (h .0) (h .3) (h .1) m (s .last .1 .1 .1 .1 .1 .0) (s .last .1 .1 .1 .1 .1 .1 .0) (s .last .1 .1 .1 .1 .1 .1 .1 .0) le lt lh)
 
 enum-known-number : tie.Need-enum-known-number
 enum-known-number c = search needs
@@ -52,16 +52,10 @@ enum-known-number c = search needs
 pack-requires : tie.Need-pack-requires
 pack-requires c κs = search needs
 
-same-length : tie.Need-same-length
-same-length c = search needs
-
-same-length-2 : tie.Need-same-length-2
-same-length-2 c = search needs
-
 returns : tie.Need-returns
-returns c = let a = c .before .before .before .before .before .before .before .before .before .before .before .before .before .before .before .before .before .before .before .before .before .before .before .before .before .before .before .args in
-    let h = c .before .before .before .before .before .before .before .before .before .before .before .before .before .before .before .before .before .before .before .before .before .before .before .before .before .before .before .pre in
-    let s = c .before .before .before .before .before .before .before .before .before .before .before .before .before .columns in
+returns c = let a = c .before .before .before .before .before .before .before .before .before .before .before .before .before .before .before .before .before .before .before .before .before .args in
+    let h = c .before .before .before .before .before .before .before .before .before .before .before .before .before .before .before .before .before .before .before .before .before .pre in
+    let s = c .before .before .before .before .before .before .before .before .before .before .before .columns in
     let j = c .before .before .before .before .judged in
     λ y. settled-refused (h .0) y (s .last .1 .1 .1 .1 .1 .0) (s .last .1 .1 .1 .1 .1 .1 .0) (s .last .1 .1 .1 .1 .1 .1 .1 .0) (s .ensures) (a .c) (j .result) (j .ensures) _ _ _ (a .out .now) (c .before .before .number .given .1) (c .pack .ensures)
 
@@ -75,34 +69,21 @@ slice-aggregate-moved-2 : tie.Need-slice-aggregate-moved-2
 slice-aggregate-moved-2 c = search needs
 
 moved-requires : tie.Need-moved-requires
-moved-requires c κs = let a = c .before .before .before .before .before .before .before .before .before .before .before .before .before .before .before .before .before .before .before .before .before .before .before .before .before .before .before .before .before .before .before .before .args in
-    let h = c .before .before .before .before .before .before .before .before .before .before .before .before .before .before .before .before .before .before .before .before .before .before .before .before .before .before .before .before .before .before .before .before .pre in
+moved-requires c κs = let h = c .before .before .before .before .before .before .before .before .before .before .before .before .before .before .before .before .before .before .before .before .before .before .pre in
     let f = h .3 .seated .few in
-    let s = c .before .before .before .before .before .before .before .before .before .before .before .before .before .before .before .before .before .before .columns in
+    let s = c .before .before .before .before .before .before .before .before .before .before .before .before .columns in
     (h .0, h .1, h .3, record { edge = s .last .1 .1 .1 .1 .1 .0; columns = s .ensures; many = omega (arith, h .2, f); targets = omega (arith, f, s .kept); homes = omega (arith, f, s .kept) })
 
-same-length-3 : tie.Need-same-length-3
-same-length-3 c = search needs
-
-same-length-4 : tie.Need-same-length-4
-same-length-4 c = search needs
-
-same-length-5 : tie.Need-same-length-5
-same-length-5 c = search needs
-
-same-length-6 : tie.Need-same-length-6
-same-length-6 c = search needs
-
-same-length-7 : tie.Need-same-length-7
-same-length-7 c = search needs
+same-length : tie.Need-same-length
+same-length c = search needs
 
 returns-2 : tie.Need-returns-2
-returns-2 c = let a = c .before .before .before .before .before .before .before .before .before .before .before .before .before .before .before .before .before .before .before .before .before .before .before .before .before .before .before .before .before .before .before .before .before .before .before .before .before .before .before .before .before .before .before .args in
-    let h = c .before .before .before .before .before .before .before .before .before .before .before .before .before .before .before .before .before .before .before .before .before .before .before .before .before .before .before .before .before .before .before .before .before .before .before .before .before .before .before .before .before .before .before .pre in
-    let s = c .before .before .before .before .before .before .before .before .before .before .before .before .before .before .before .before .before .before .before .before .before .before .before .before .before .before .before .before .before .columns in
-    let j = c .before .before .before .before .before .before .before .before .before .before .before .before .before .before .before .before .before .before .before .before .judged in
-    let m = c .before .before .before .before .before .before .before .before .before .before .moved in
-    λ y. settled-moves (h .0) y (s .last .1 .1 .1 .1 .1 .0) (s .last .1 .1 .1 .1 .1 .1 .0) (s .last .1 .1 .1 .1 .1 .1 .1 .0) (s .ensures) (a .c) (j .result) (j .ensures) (c .before .before .before .before .before .before .before .before .before .before .before .before .before .before .before .before .before .before .enum-told .given .1) (m .result) (a .out .now) _ (m .ensures y)
+returns-2 c = let a = c .before .before .before .before .before .before .before .before .before .before .before .before .before .before .before .before .before .before .before .before .before .before .before .before .before .args in
+    let h = c .before .before .before .before .before .before .before .before .before .before .before .before .before .before .before .before .before .before .before .before .before .before .before .before .before .pre in
+    let s = c .before .before .before .before .before .before .before .before .before .before .before .before .before .before .before .columns in
+    let j = c .before .before .before .before .before .before .before .before .judged in
+    let m = c .before .before .moved in
+    λ y. settled-moves (h .0) y (s .last .1 .1 .1 .1 .1 .0) (s .last .1 .1 .1 .1 .1 .1 .0) (s .last .1 .1 .1 .1 .1 .1 .1 .0) (s .ensures) (a .c) (j .result) (j .ensures) (c .before .before .before .before .before .before .enum-told .given .1) (m .result) (a .out .now) _ (m .ensures y)
 
 pub settle-spec : {M : Type 1} → statement M
 settle-spec =
@@ -119,16 +100,10 @@ settle-spec =
     judged-requires
     enum-known-number
     pack-requires
-    same-length
-    same-length-2
     returns
     enum-told
     slice-aggregate-moved
     slice-aggregate-moved-2
     moved-requires
-    same-length-3
-    same-length-4
-    same-length-5
-    same-length-6
-    same-length-7
+    same-length
     returns-2)

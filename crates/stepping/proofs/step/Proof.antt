@@ -19,7 +19,7 @@ pack-requires : tie.Need-pack-requires
 pack-requires c κs = search needs
 
 returns : tie.Need-returns
-returns c = let a = c .before .before .before .before .before .before .before .before .before .before .before .before .before .before .args in
+returns c = let a = c .before .before .before .before .before .before .before .before .before .before .args in
     λ s. chosen-9 (a .t .now) (s .on) (a .n) (s .seated .number) (a .choice .now) _ _ _ (a .out .now) (sym (ap said (c .before .before .number .given .1)) ∙ c .before .before .before .before .read-choice .ensures) (c .pack .ensures)
 
 settle-requires : tie.Need-settle-requires
@@ -28,22 +28,10 @@ settle-requires c κs = search needs
 same-length : tie.Need-same-length
 same-length c = search needs
 
-same-length-2 : tie.Need-same-length-2
-same-length-2 c = search needs
-
-same-length-3 : tie.Need-same-length-3
-same-length-3 c = search needs
-
-same-length-4 : tie.Need-same-length-4
-same-length-4 c = search needs
-
-same-length-5 : tie.Need-same-length-5
-same-length-5 c = search needs
-
 returns-2 : tie.Need-returns-2
-returns-2 c = let a = c .before .before .before .before .before .before .before .before .before .before .before .before .before .before .before .before .before .before .before .before .before .before .before .before .before .before .before .before .before .args in
-    let w = c .before .before .before .before .before .before .before .before .before .before .settle in
-    λ s. settled-reply (a .t .now) (s .on) (a .n) (s .seated .number) (a .choice .now) _ (sym (ap said (c .before .before .before .before .before .before .before .before .before .before .before .before .before .before .before .before .before .c .given .1)) ∙ c .before .before .before .before .before .before .before .before .before .before .before .before .before .before .before .before .before .before .before .read-choice .ensures) (w .result) (a .out .now) _ (w .ensures s)
+returns-2 c = let a = c .before .before .before .before .before .before .before .before .before .before .before .before .before .args in
+    let w = c .before .before .settle in
+    λ s. settled-reply (a .t .now) (s .on) (a .n) (s .seated .number) (a .choice .now) _ (sym (ap said (c .before .before .before .before .before .c .given .1)) ∙ c .before .before .before .before .before .before .before .read-choice .ensures) (w .result) (a .out .now) _ (w .ensures s)
 
 pub step-spec : {M : Type 1} → statement M
 step-spec =
@@ -56,8 +44,4 @@ step-spec =
     returns
     settle-requires
     same-length
-    same-length-2
-    same-length-3
-    same-length-4
-    same-length-5
     returns-2)

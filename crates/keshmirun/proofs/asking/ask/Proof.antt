@@ -1,8 +1,7 @@
 -- `ask`: fresh arrays for the board, and what `respond` says of it. Assumes nothing.
-use mathlib.Core.Path.{_≡_, refl}
-use lib.ListN.{length}
+use mathlib.Core.Path.{refl}
 use native.Mathlib.Omega.{arith}
-use Rattle.holding.proofs.TakenUp.{lent-room}
+use Rattle.holding.proofs.TakenUp.{full-room}
 use borrow.Author.Needs.{needs}
 use Rattle.keshmirun.proofs.asking.ask.Statement.{statement}
 use Rattle.keshmirun.proofs.asking.ask.Tie as tie
@@ -32,9 +31,8 @@ slice-aggregate-read-8 : tie.Need-slice-aggregate-read-8
 slice-aggregate-read-8 c = search needs
 
 read-requires : tie.Need-read-requires
-read-requires c κs = let a = c .before .before .before .before .before .before .before .before .before .before .before .before .before .args in
-    let h = c .before .before .before .before .before .before .before .before .before .before .before .before .before .pre in
-    (h, lent-room (a .t .now) h _ _ _ _ refl refl refl refl, record { ends-room = omega arith; order-room = omega arith; lens-room = omega arith; cells-room = omega arith })
+read-requires c κs = let h = c .before .before .before .before .before .before .before .before .before .before .before .before .before .pre in
+    (h, full-room (c .before .before .before .before .before .before .before .before .before .before .before .before .before .args .t .now) h (record { froms-full = refl; kepts-full = refl; runs-full = refl; tokens-full = refl }), record { ends-room = omega arith; order-room = omega arith; lens-room = omega arith; cells-room = omega arith })
 
 slice-aggregate-respond : tie.Need-slice-aggregate-respond
 slice-aggregate-respond c = search needs
@@ -48,28 +46,12 @@ slice-aggregate-respond-3 c = search needs
 slice-aggregate-respond-4 : tie.Need-slice-aggregate-respond-4
 slice-aggregate-respond-4 c = search needs
 
-slice-aggregate-respond-5 : tie.Need-slice-aggregate-respond-5
-slice-aggregate-respond-5 c = search needs
-
-slice-aggregate-respond-6 : tie.Need-slice-aggregate-respond-6
-slice-aggregate-respond-6 c = search needs
-
-slice-aggregate-respond-7 : tie.Need-slice-aggregate-respond-7
-slice-aggregate-respond-7 c = search needs
-
-slice-aggregate-respond-8 : tie.Need-slice-aggregate-respond-8
-slice-aggregate-respond-8 c = search needs
-
 respond-requires : tie.Need-respond-requires
-respond-requires c κs = let a = c .before .before .before .before .before .before .before .before .before .before .before .before .before .before .before .before .before .before .before .before .before .before .before .before .before .before .before .before .before .before .before .args in
-    let h = c .before .before .before .before .before .before .before .before .before .before .before .before .before .before .before .before .before .before .before .before .before .before .before .before .before .before .before .before .before .before .before .pre in
-    let r = c .before .before .before .before .before .before .before .before .before .before .before .before .before .before .before .before .before .read in
-    let f : length (r .last .1 .1 .1 .1 .0) ≡ 48 = omega (arith, r .kept) in
-    let k : length (r .last .1 .1 .1 .1 .1 .0) ≡ 48 = omega (arith, r .kept) in
-    let n : length (r .last .1 .1 .1 .1 .1 .1 .0) ≡ 48 = omega (arith, r .kept) in
-    let o : length (r .last .1 .1 .1 .1 .1 .1 .1 .0) ≡ 64 = omega (arith, r .kept) in (
+respond-requires c κs = let a = c .before .before .before .before .before .before .before .before .before .before .before .before .before .before .before .before .before .before .before .before .before .before .before .before .before .before .before .args in
+    let h = c .before .before .before .before .before .before .before .before .before .before .before .before .before .before .before .before .before .before .before .before .before .before .before .before .before .before .before .pre in
+    let r = c .before .before .before .before .before .before .before .before .before .before .before .before .before .read in (
       h,
-      lent-room (a .t .now) h _ _ _ _ f k n o,
+      record { froms-full = omega (arith, r .kept); kepts-full = omega (arith, r .kept); runs-full = omega (arith, r .kept); tokens-full = omega (arith, r .kept) },
       record { ends-room = omega (arith, r .kept); order-room = omega (arith, r .kept); lens-room = omega (arith, r .kept); cells-room = omega (arith, r .kept) },
       record { guards = a .g .now; is-read = r .ensures },
     )
@@ -78,7 +60,7 @@ same-length : tie.Need-same-length
 same-length c = search needs
 
 returns : tie.Need-returns
-returns c = c .before .before .before .before .before .before .respond .ensures (record { guards = c .before .before .before .before .before .before .before .before .before .before .before .before .before .before .before .before .before .before .before .before .before .before .before .before .before .before .before .before .before .before .before .before .before .before .before .before .before .before .args .g .now; is-read = c .before .before .before .before .before .before .before .before .before .before .before .before .before .before .before .before .before .before .before .before .before .before .before .before .read .ensures })
+returns c = c .before .before .respond .ensures (record { guards = c .before .before .before .before .before .before .before .before .before .before .before .before .before .before .before .before .before .before .before .before .before .before .before .before .before .before .before .before .before .before .args .g .now; is-read = c .before .before .before .before .before .before .before .before .before .before .before .before .before .before .before .before .read .ensures })
 
 pub ask-spec : {M : Type 1} → statement M
 ask-spec =
@@ -97,10 +79,6 @@ ask-spec =
     slice-aggregate-respond-2
     slice-aggregate-respond-3
     slice-aggregate-respond-4
-    slice-aggregate-respond-5
-    slice-aggregate-respond-6
-    slice-aggregate-respond-7
-    slice-aggregate-respond-8
     respond-requires
     same-length
     returns)

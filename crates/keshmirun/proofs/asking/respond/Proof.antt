@@ -18,90 +18,66 @@ pack-requires : tie.Need-pack-requires
 pack-requires c κs = search needs
 
 returns : tie.Need-returns
-returns c = let a = c .before .before .before .before .before .before .before .before .before .before .before .before .before .before .before .before .args in
+returns c = let a = c .before .before .before .before .before .before .before .before .before .before .before .before .args in
     λ y. read-refused y (a .choice .now) (a .request) _ _ (c .pack .result) (a .out .now) (c .before .before .answer2 .given .1) (c .pack .ensures)
 
 enum-told : tie.Need-enum-told
 enum-told c = search needs
 
 show-requires : tie.Need-show-requires
-show-requires c κs = let h = c .before .before .before .before .before .before .before .before .before .before .before .before .before .before .before .before .before .before .pre in laid-shows (laid-in (h .3) _ (c .before .before .before .before .answer .given .1)) (h .2)
+show-requires c κs = let h = c .before .before .before .before .before .before .before .before .before .before .before .before .before .before .pre in laid-shows (laid-in (h .3) _ (c .before .before .before .before .answer .given .1)) (h .2)
 
 enum-known-request : tie.Need-enum-known-request
 enum-known-request c = search needs
 
 pick-requires : tie.Need-pick-requires
-pick-requires c κs = let h = c .before .before .before .before .before .before .before .before .before .before .before .before .before .before .before .before .before .before .before .before .before .pre in (h .0, laid-pickable (laid-in (h .3) _ (c .before .before .before .before .before .before .before .answer .given .1)) (h .2), h .1 .runs-there, h .1 .kepts)
+pick-requires c κs = let h = c .before .before .before .before .before .before .before .before .before .before .before .before .before .before .before .pre in (h .0, laid-pickable (laid-in (h .3) _ (c .before .before .before .before .before .answer .given .1)) (h .2), h .1)
 
 enum-told-2 : tie.Need-enum-told-2
 enum-told-2 c = search needs
 
 step-requires : tie.Need-step-requires
-step-requires c κs = let a = c .before .before .before .before .before .before .before .before .before .before .before .before .before .before .before .before .before .before .before .before .before .before .args in
-    let h = c .before .before .before .before .before .before .before .before .before .before .before .before .before .before .before .before .before .before .before .before .before .before .pre in
-    let u : Bytes (a .b .now) = λ i. (c .before .before .before .before .before .before .before .before .before .before .before .before .before .before .before .before .before .before .before .before .shared-slice-known2 .given i) .fits in
-    (h .0, h .1, h .2 .ends-room, laid-standing (laid-in (h .3) _ (c .before .before .before .before .before .before .before .before .answer .given .1)) u)
+step-requires c κs = let a = c .before .before .before .before .before .before .before .before .before .before .before .before .before .before .args in
+    let h = c .before .before .before .before .before .before .before .before .before .before .before .before .before .before .pre in
+    let u : Bytes (a .b .now) = λ i. (c .before .before .before .before .before .before .before .before .before .before .before .before .shared-slice-known2 .given i) .fits in
+    (h .0, h .1, h .2 .ends-room, laid-standing (laid-in (h .3) _ (c .before .before .before .before .answer .given .1)) u)
 
 enum-known-request-2 : tie.Need-enum-known-request-2
 enum-known-request-2 c = search needs
 
 states-requires : tie.Need-states-requires
-states-requires c κs = let h = c .before .before .before .before .before .before .before .before .before .before .before .before .before .before .before .before .before .before .before .before .pre in (h .0, laid-pickable (laid-in (h .3) _ (c .before .before .before .before .before .before .answer .given .1)) (h .2), h .1 .runs-there, h .1 .kepts)
+states-requires c κs = let h = c .before .before .before .before .before .before .before .before .before .before .before .before .before .before .pre in (h .0, laid-pickable (laid-in (h .3) _ (c .before .before .before .before .answer .given .1)) (h .2), h .1)
 
 same-length : tie.Need-same-length
 same-length c = search needs
 
 returns-2 : tie.Need-returns-2
-returns-2 c = let a = c .before .before .before .before .before .before .before .before .before .before .before .before .before .before .before .before .before .before .before .before .before .args in
+returns-2 c = let a = c .before .before .before .before .before .before .before .before .before .before .before .before .before .before .before .before .before .args in
     let r = c .before .before .show in
-    λ y. sheet-leaves (a .t .now) (a .b .now) (y .guards) (a .choice .now) (laid-in y _ (c .before .before .before .before .before .before .before .answer .given .1)) (a .request) (r .result) (a .out .now) _ (c .before .before .before .before .enum-told .given .1) (c .before .before .before .before .before .before .before .before .before .before .before .before .before .before .before .before .before .before .before .before .before .pre .2 .cells-room) (r .ensures)
+    λ y. sheet-leaves (a .t .now) (a .b .now) (y .guards) (a .choice .now) (laid-in y _ (c .before .before .before .before .before .before .before .answer .given .1)) (a .request) (r .result) (a .out .now) _ (c .before .before .before .before .enum-told .given .1) (c .before .before .before .before .before .before .before .before .before .before .before .before .before .before .before .before .before .pre .2 .cells-room) (r .ensures)
 
 same-length-2 : tie.Need-same-length-2
 same-length-2 c = search needs
 
+returns-3 : tie.Need-returns-3
+returns-3 c = let a = c .before .before .before .before .before .before .before .before .before .before .before .before .before .before .before .before .before .before .args in
+    let r = c .before .before .pick in
+    λ y. let l = laid-in y _ (c .before .before .before .before .before .before .before .before .answer .given .1) in
+    pick-leaves (a .t .now) (a .b .now) (y .guards) (a .choice .now) l (a .request) (r .result) (a .out .now) _ _ (c .before .before .before .before .before .request .given .1) (r .ensures (l .links) (l .on) (l .trees) (l .seated) (laid-told l) (stocks-fit l))
+
 same-length-3 : tie.Need-same-length-3
 same-length-3 c = search needs
 
-same-length-4 : tie.Need-same-length-4
-same-length-4 c = search needs
-
-returns-3 : tie.Need-returns-3
-returns-3 c = let a = c .before .before .before .before .before .before .before .before .before .before .before .before .before .before .before .before .before .before .before .before .before .before .before .before .args in
-    let r = c .before .before .pick in
-    λ y. let l = laid-in y _ (c .before .before .before .before .before .before .before .before .before .before .answer .given .1) in
-    pick-leaves (a .t .now) (a .b .now) (y .guards) (a .choice .now) l (a .request) (r .result) (a .out .now) _ _ (c .before .before .before .before .before .before .before .request .given .1) (r .ensures (l .links) (l .on) (l .trees) (l .seated) (laid-told l) (stocks-fit l))
-
-same-length-5 : tie.Need-same-length-5
-same-length-5 c = search needs
-
-same-length-6 : tie.Need-same-length-6
-same-length-6 c = search needs
-
-same-length-7 : tie.Need-same-length-7
-same-length-7 c = search needs
-
-same-length-8 : tie.Need-same-length-8
-same-length-8 c = search needs
-
-same-length-9 : tie.Need-same-length-9
-same-length-9 c = search needs
-
 returns-4 : tie.Need-returns-4
-returns-4 c = let a = c .before .before .before .before .before .before .before .before .before .before .before .before .before .before .before .before .before .before .before .before .before .before .before .before .before .before .before .before .before .before .before .before .before .args in
-    let r = c .before .before .before .before .before .before .before .before .before .before .step in
-    let u : Bytes (a .b .now) = λ i. (c .before .before .before .before .before .before .before .before .before .before .before .before .before .before .before .before .before .before .before .before .before .before .before .before .before .before .before .before .before .before .before .shared-slice-known2 .given i) .fits in
-    λ y. let l = laid-in y _ (c .before .before .before .before .before .before .before .before .before .before .before .before .before .before .before .before .before .before .before .answer .given .1) in
-    step-leaves (a .t .now) (a .b .now) (y .guards) (a .choice .now) l (a .request) (r .result) (a .out .now) _ (c .before .before .before .before .before .before .before .before .before .before .before .before .before .before .before .before .enum-told2 .given .1) (standing-reply l u (a .choice .now) (r .result) (a .out .now) _ (r .ensures))
-
-same-length-10 : tie.Need-same-length-10
-same-length-10 c = search needs
-
-same-length-11 : tie.Need-same-length-11
-same-length-11 c = search needs
+returns-4 c = let a = c .before .before .before .before .before .before .before .before .before .before .before .before .before .before .before .before .before .args in
+    let r = c .before .before .step in
+    let u : Bytes (a .b .now) = λ i. (c .before .before .before .before .before .before .before .before .before .before .before .before .before .before .before .shared-slice-known2 .given i) .fits in
+    λ y. let l = laid-in y _ (c .before .before .before .before .before .before .before .answer .given .1) in
+    step-leaves (a .t .now) (a .b .now) (y .guards) (a .choice .now) l (a .request) (r .result) (a .out .now) _ (c .before .before .before .before .enum-told2 .given .1) (standing-reply l u (a .choice .now) (r .result) (a .out .now) _ (r .ensures))
 
 returns-5 : tie.Need-returns-5
-returns-5 c = let a = c .before .before .before .before .before .before .before .before .before .before .before .before .before .before .before .before .before .before .before .before .before .args in
-    λ y. count-leaves (a .t .now) (a .b .now) (y .guards) (a .choice .now) (laid-in y _ (c .before .before .before .before .before .before .before .answer .given .1)) (a .request) (c .states .result) (a .out .now) (a .out .now) _ (c .before .before .before .before .request2 .given .1) (c .states .ensures)
+returns-5 c = let a = c .before .before .before .before .before .before .before .before .before .before .before .before .before .before .before .args in
+    λ y. count-leaves (a .t .now) (a .b .now) (y .guards) (a .choice .now) (laid-in y _ (c .before .before .before .before .before .answer .given .1)) (a .request) (c .states .result) (a .out .now) (a .out .now) _ (c .before .before .request2 .given .1) (c .states .ensures)
 
 pub respond-spec : {M : Type 1} → statement M
 respond-spec =
@@ -122,15 +98,7 @@ respond-spec =
     same-length
     returns-2
     same-length-2
-    same-length-3
-    same-length-4
     returns-3
-    same-length-5
-    same-length-6
-    same-length-7
-    same-length-8
-    same-length-9
+    same-length-3
     returns-4
-    same-length-10
-    same-length-11
     returns-5)
