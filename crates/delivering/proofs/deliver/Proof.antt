@@ -24,7 +24,7 @@ pack-requires : tie.Need-pack-requires
 pack-requires c κs = search needs
 
 same-length : tie.Need-same-length
-same-length c = search needs
+same-length c = c .before .before .before .before .before .before .before .before .give .kept .1 .1 .1 .1 .1 .1 .1 .1 .1 .0
 
 returns : tie.Need-returns
 returns c =
@@ -54,10 +54,10 @@ reply-requires c κs =
     (h .0, sources (h .6) (a .values .now) place more tokens (c .before .before .before .before .before .before .before .before .before .before .give .result) (c .before .before .before .before .before .before .before .before .before .before .give .ensures (h .6 .fires) (h .6 .held) (a .old .now) (a .from .now) (a .runs .now) (h .1) (h .3) (h .6 .ready)) (c .before .before .before .before .enum-told .given .1))
 
 same-length-2 : tie.Need-same-length-2
-same-length-2 c = search needs
+same-length-2 c = c .before .before .before .before .before .before .before .before .before .before .before .before .before .give .kept .1 .1 .1 .1 .1 .1 .1 .1 .1 .0
 
 same-length-3 : tie.Need-same-length-3
-same-length-3 c = search needs
+same-length-3 c = c .before .before .reply .kept .1 .1 .1 .1 .1 .1 .1 .1 .1 .1 .1 .0
 
 returns-2 : tie.Need-returns-2
 returns-2 c =

@@ -105,7 +105,7 @@ conclude-requires c κs = let a = c .before .before .before .before .before .bef
     (e, omega (arith, running-node (a .t .now) (l .current) (c .before .before .before .before .before .before .before .before .before .wide .result) n, read-spans (a .t .now) e .nodes-read), full-room (a .t .now) e (record { froms-full = omega (arith, u .kept); kepts-full = omega (arith, u .kept); runs-full = omega (arith, u .kept); tokens-full = omega (arith, u .kept) }), l)
 
 same-length : tie.Need-same-length
-same-length c = search needs
+same-length c = c .before .before .before .before .before .conclude .kept .1 .1 .1 .1 .1 .1 .1 .1 .1 .0
 
 returns-4 : tie.Need-returns-4
 returns-4 c = let a = c .before .before .before .before .before .before .before .before .before .before .before .before .before .before .before .before .before .before .before .before .before .before .before .before .before .before .before .before .before .before .before .args in

@@ -38,7 +38,7 @@ deliver-requires c κs =
     (e, n, n, n, omega (arith, c .before .before .before .before .before .before .before .fire-kind .kept), most-edges t e, start-ready t (c .before .before .before .before .before .before .before .before .before .before .before .before .args .values .now) _ e _ _ _ _ _ (blank 48) (blank 48) (blank 48) (blank 64) (c .before .before .before .before .before .before .before .fire-kind .ensures))
 
 same-length : tie.Need-same-length
-same-length c = search needs
+same-length c = c .before .before .before .deliver .kept .1 .1 .1 .1 .1 .1 .1 .1 .1 .1 .1 .0
 
 returns : tie.Need-returns
 returns c =

@@ -61,7 +61,7 @@ write-paths-requires c κs = let p = c .before .before .before .before .before .
     )
 
 same-length : tie.Need-same-length
-same-length c = search needs
+same-length c = c .before .before .write-paths .kept .1 .1 .1 .1 .1 .0 ∙ c .before .before .before .before .before .before .before .before .write-front .kept .1 .1 .1 .1 .0
 
 returns : tie.Need-returns
 unfolding endTakes

@@ -23,7 +23,7 @@ add-requires : tie.Need-add-requires
 add-requires c κs = search needs
 
 same-length : tie.Need-same-length
-same-length c = search needs
+same-length c = c .before .before .add .kept .0
 
 returns : tie.Need-returns
 returns c =

@@ -34,7 +34,7 @@ add-requires : tie.Need-add-requires
 add-requires c κs = search needs
 
 same-length : tie.Need-same-length
-same-length c = search needs
+same-length c = c .before .before .add .kept .0
 
 returns-2 : tie.Need-returns-2
 returns-2 c =

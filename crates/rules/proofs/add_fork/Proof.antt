@@ -52,7 +52,7 @@ add-requires : tie.Need-add-requires
 add-requires c κs = search needs
 
 same-length : tie.Need-same-length
-same-length c = search needs
+same-length c = c .before .before .add .kept .0
 
 returns-3 : tie.Need-returns-3
 returns-3 c =

@@ -30,7 +30,7 @@ add-requires : tie.Need-add-requires
 add-requires c κs = search needs
 
 same-length : tie.Need-same-length
-same-length c = search needs
+same-length c = c .before .before .add .kept .0
 
 returns-2 : tie.Need-returns-2
 returns-2 c =
@@ -65,7 +65,7 @@ add-requires-2 : tie.Need-add-requires-2
 add-requires-2 c κs = search needs
 
 same-length-2 : tie.Need-same-length-2
-same-length-2 c = search needs
+same-length-2 c = c .before .before .add2 .kept .0
 
 returns-3 : tie.Need-returns-3
 returns-3 c =
@@ -107,7 +107,7 @@ add-requires-3 : tie.Need-add-requires-3
 add-requires-3 c κs = search needs
 
 same-length-3 : tie.Need-same-length-3
-same-length-3 c = search needs
+same-length-3 c = c .before .before .add3 .kept .0
 
 returns-5 : tie.Need-returns-5
 returns-5 c =

@@ -33,7 +33,7 @@ add-nodes-requires c κs =
     (omega arith, omega (arith, c .before .before .before .add-edges .kept, c .before .before .before .before .before .before .before .add-forks .kept, c .before .before .before .before .before .before .before .before .before .before .before .add-clashes .kept, c .before .before .before .before .before .before .before .before .before .before .before .before .before .before .before .before .before .before .before .before .before .before .before .before .before .pre .0), p .good-table, p .end-targets, p .end-homes, p .few-ends, p .node-runs, p .node-stocks)
 
 same-length : tie.Need-same-length
-same-length c = search needs
+same-length c = c .before .before .add-nodes .kept .0 ∙ c .before .before .before .before .before .before .add-edges .kept .0 ∙ c .before .before .before .before .before .before .before .before .before .before .add-forks .kept .0 ∙ c .before .before .before .before .before .before .before .before .before .before .before .before .before .before .add-clashes .kept .0
 
 returns : tie.Need-returns
 returns c =

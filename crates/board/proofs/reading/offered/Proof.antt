@@ -33,7 +33,7 @@ build-requires c κs = let h = c .before .before .before .before .before .before
     (record { framed = good-framed t (h .0); guards = h .1; codes = omega (arith, e, s .edges-read, k); values = omega (arith, e, s .edges-read, k) }, h .5)
 
 same-length : tie.Need-same-length
-same-length c = search needs
+same-length c = c .before .before .build .kept .1 .1 .1 .1 .1 .0
 
 returns : tie.Need-returns
 returns c = let h = c .before .before .before .before .before .before .before .before .before .before .before .before .before .before .before .before .before .before .pre in
