@@ -67,7 +67,7 @@ pub fn ask(
     let mut kept = [0u8; Table::MOST_NODES];
     let mut runs = [0u8; Table::MOST_NODES];
     let mut tokens = [0u8; Table::MOST_EDGES];
-    let mut ends = [0u8; ends::MOST_ENDS];
+    let mut ends = [0u8; rows::MOST_ENDS];
     let mut order = [0u8; paths::BLOCKS];
     let mut lens = [0u8; paths::BLOCKS];
     let mut cells = [0u8; paths::CELLS];

@@ -28,8 +28,6 @@ use Rattle.choosing.proofs.Laws.{taken-numbers}
 use Rattle.holding.specs.declared.Held.{Held}
 use Rattle.holding.specs.TakenUp.{HeldFull}
 use Rattle.holding.proofs.TakenUp.{full-room}
-use Rattle.board.specs.Reading.{Seats, SeatsRoom, Laid}
-use Rattle.board.proofs.BoardLaws.{laid-edges}
 use Rattle.picking.specs.Picking.{Pickable}
 
 -- ---- on a board
@@ -90,16 +88,3 @@ module _ {t : List ℕ} {x : Table} (e : tableRead t ≡ good x) {o : Offers} {e
 pub fits-empty : {t : List ℕ} {d : Board} {y : Rows} {ts : List Offer} {ends : List ℕ} {n : ℕ} → Seated t d y ts ends n
     → ((i : ℕ) → length (d .current .stock i) ≤ upper t i) → acceptable d 0 ≡ true
 fits-empty {d = d} s h = empty-acceptable d (rw (s .table-is) h)
-
--- ---- a board that was read
-pub laid-pickable : {t b g : List ℕ} {o : Offers} {x : Held} {s : Seats} {n : ℕ} → Laid t b g o x s n → SeatsRoom s → Pickable t o (s .ends) n
-laid-pickable l r = record {
-  full = l .full;
-  few-rows = l .seated .holds-ts .fits;
-  few = l .seated .few;
-  rowed = record {
-    many = omega (arith, l .seated .few, r .ends-room);
-    each-inside = λ k m. omega (arith, l .seated .inside k m, l .seated .holds-ts .count-is, l .seated .holds-ts .fits);
-  };
-  edges-inside = laid-edges l;
-}

@@ -87,9 +87,9 @@ fn prepare(
     ensures { λ r. ⌜ (r .rules ≤ 196) × ((links : List ℕ) (d : Board) (ts : List Offer) → Seated (now (t .entry)) d (rowsOf offers links) ts (now (ends .entry)) n → Told (now (t .entry)) (d .current) (held .runs) (held .kept) → ((i : ℕ) → length (d .current .stock i) ≤ upper (now (t .entry)) i) → (c : ℕ) → holds (now (net .exit)) (r .rules) n c && leb (r .want .least) (heldOf n c (r .want .ends)) ≡ wanted d node c) ⌝ }
 {
     let last = offers.last;
-    let mut edge = [0u8; ends::MOST_ENDS];
-    let mut target = [0u8; ends::MOST_ENDS];
-    let mut home = [0u8; ends::MOST_ENDS];
+    let mut edge = [0u8; rows::MOST_ENDS];
+    let mut target = [0u8; rows::MOST_ENDS];
+    let mut home = [0u8; rows::MOST_ENDS];
     seating::columns(t, table, &last, ends, n, &mut edge, &mut target, &mut home);
     let rules = filled(net, t, table, offers, ends, &edge, &target, &home, n, held);
     Question {

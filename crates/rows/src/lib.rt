@@ -39,10 +39,12 @@ pub const FOES: usize = 7;
 
 pub const BEFORE: usize = 8;
 
-// "At most 64 offers, 8 paths in an offer".
+// "At most 64 offers, 8 paths in an offer, 20 ends".
 pub const MOST_OFFERS: usize = 64;
 
 pub const MOST_PATHS: usize = 8;
+
+pub const MOST_ENDS: usize = 20;
 
 // The list of offers: a row each. What their paths go on from stands beside it, as only the ends' paths are read from there.
 pub struct Offers {

@@ -1,6 +1,6 @@
 -- What step answers on a board that was read, row by row: of a choice among its ends, of judging it, and what is asked of the slices lent.
 -- Assumes nothing.
-use mathlib.Core.Path.{_≡_, refl, sym, ap, subst, _∙_}
+use mathlib.Core.Path.{_≡_, refl, sym, subst, _∙_}
 use mathlib.Core.Bool.{Bool, true, false, _&&_}
 use mathlib.Core.List.{List}
 use Prim.Native.Nat.{ℕ, _≤_, _<_}
@@ -12,9 +12,6 @@ use Rattle.paper.specs.Answers.{Answer, refused, good, _>>=_, judgedBy}
 use Rattle.paper.specs.Marking.{Marking, encode}
 use Rattle.paper.specs.Choices.{Board, howMany, rules, next}
 use Rattle.paper.specs.Operations.{rising, choiceOf, stepOf, packed, inRoom, Reply}
-use Rattle.paper.proofs.Boards.{board-good}
-use Rattle.paper.proofs.Bytes.{Bytes}
-use Rattle.paper.proofs.OneMarking.{read-is-good, encode-fits}
 use Rattle.table.specs.declared.Table.{Table}
 use Rattle.table.specs.Reading.{tableRead}
 use Rattle.table.proofs.Reading.{read-spans, most-nodes}
@@ -31,32 +28,7 @@ use Rattle.moves.proofs.Calling.{target-nodes, stocks-end}
 use Rattle.holding.specs.declared.Held.{Held}
 use Rattle.holding.specs.TakenUp.{HeldFull}
 use Rattle.holding.proofs.TakenUp.{full-room}
-use Rattle.board.specs.Reading.{Seats, Laid}
-use Rattle.board.proofs.BoardLaws.{laid-edges}
 use Rattle.stepping.specs.Stepping.{settled, chosen, Standing, Seen}
-
--- ---- a board that was read
-pub laid-standing : {t b g : List ℕ} {o : Offers} {x : Held} {s : Seats} {n : ℕ} → Laid t b g o x s n → Bytes b → Standing t b o x (s .ends) n
-laid-standing {t} {b} {g} l u =
-    let f = board-good t b g (l .on) (l .is-board) in
-    let r = read-is-good t b (l .on .current) u (f .is-read) in
-    record {
-      on = l .on;
-      trees = l .trees;
-      full = l .full;
-      links = l .links;
-      seated = l .seated;
-      end-edges = laid-edges l;
-      live = f .facts .live;
-      good-marking = r .0;
-      short = omega (arith, encode-fits t (l .on .current) (f .table-fine) (r .0), ap length (r .1));
-      holding = l .holding;
-    }
-
-pub standing-reply : {t b g : List ℕ} {o : Offers} {x : Held} {s : Seats} {n : ℕ} (l : Laid t b g o x s n) → Bytes b → (ks : List ℕ) (w : ℕ) (out after : List ℕ)
-    → ((y : Standing t b o x (s .ends) n) → Reply (inRoom (length out) (chosen t (y .on) ks)) w out after) → Reply (inRoom (length out) (chosen t (l .on) ks)) w out after
-unfolding laid-standing
-standing-reply l u ks w out after h = h (laid-standing l u)
 
 -- ---- row 9, and the choice
 module _ (t : List ℕ) (d : Board) (n : ℕ) (q : n ≡ howMany d) (ks : List ℕ) where

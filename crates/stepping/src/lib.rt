@@ -142,9 +142,9 @@ fn settle(
     ensures { λ r. ⌜ ((s : Standing (now (t .entry)) (now (b .entry)) offers held (now (ends .entry)) n) → Reply (inRoom (length (now (out .entry))) (settled (now (t .entry)) (s .on) c)) r (now (out .entry)) (now (out .exit))) ⌝ }
 {
     let last = offers.last;
-    let mut edge = [0u8; ends::MOST_ENDS];
-    let mut target = [0u8; ends::MOST_ENDS];
-    let mut home = [0u8; ends::MOST_ENDS];
+    let mut edge = [0u8; rows::MOST_ENDS];
+    let mut target = [0u8; rows::MOST_ENDS];
+    let mut home = [0u8; rows::MOST_ENDS];
     seating::columns(t, table, &last, ends, n, &mut edge, &mut target, &mut home);
     if let Judged::Refused(number, place) = judged(
         t,

@@ -1,8 +1,7 @@
 -- `respond`: what the board's reader refused, or what is asked of the board. Assumes nothing.
 use Rattle.paper.proofs.Bytes.{Bytes}
 use Rattle.board.proofs.BoardLaws.{laid-told, stocks-fit}
-use Rattle.picking.proofs.Laws.{laid-pickable}
-use Rattle.stepping.proofs.Laws.{laid-standing, standing-reply}
+use Rattle.keshmirun.proofs.Laying.{laid-pickable, laid-standing, standing-reply}
 use Rattle.keshmirun.proofs.Requests.{sheet-leaves, pick-leaves, step-leaves, count-leaves, read-refused, laid-in, laid-shows}
 use borrow.Author.Needs.{needs}
 use Rattle.keshmirun.proofs.asking.respond.Statement.{statement}
