@@ -9,14 +9,13 @@ ghost use Prim.Native.Nat.{ℕ, _+_, _≤_, _<_};
 ghost use lib.ListN.{length};
 ghost use Rattle.paper.specs.Lists.{at};
 ghost use Rattle.paper.specs.Answers.{good};
-ghost use Rattle.paper.specs.Table.{nodes};
 ghost use Rattle.paper.specs.Marking.{Marking, marking};
 ghost use Rattle.paper.specs.Operations.{idled};
 ghost use Rattle.table.specs.Reading.{Spans, tableRead};
 ghost use Rattle.marking.specs.Reading.{NodesNoted, EdgesNoted};
 ghost use Rattle.holding.specs.Holding.{NodesHeld, EdgesHeld, HeldRead};
 
-// A marking that was taken up: where each stock's values stand in its bytes and how many they are, what runs, and the counts.
+// A marking that was taken up, to be handed on whole.
 pub struct Held {
     pub from: [usize; Table::MOST_NODES],
     pub kept: [u8; Table::MOST_NODES],
