@@ -15,7 +15,8 @@ use Rattle.paper.proofs.Members.{all-in, in-all, in-keep-below, keep-in, below-
 use Rattle.paper.proofs.Tables.{GoodTable}
 use Rattle.seating.proofs.Rules.{if-so}
 use Rattle.seating.specs.Seating.{kept, passed, seats, served, actionFits, fits, allowed}
-use Rattle.rules.specs.Rules.{Roomy, clashKept, forkKept, edgeKept, idleKept, pinKept, storeKept, nodeKept}
+use Rattle.rules.specs.Rules.{holds, AddedUpto, Roomy, clashKept, forkKept, edgeKept, idleKept, pinKept, storeKept, nodeKept}
+use Rattle.rules.proofs.Rows.{added-four}
 
 -- if, then: made and used
 -- a store has room for x more
@@ -203,3 +204,10 @@ module _ (t node parents makers foes ends edge target home runs stock : List ℕ
       and-both ((clashPart && forkPart t node parents makers ends rows n c) && edgePart t edge target home runs stock n c g room) _
       (and-both (clashPart && forkPart t node parents makers ends rows n c) _ (and-both clashPart _ (q .0) (fork-back t node parents makers ends rows n c (q .1)))
       (edge-back t edge target home runs stock n c g room (p .1))) (node-back t edge target home runs stock n c g room (p .1))))
+
+  -- so the four runs of rows, one after the other, say it
+  pub filled-says : {ns es : ℕ} {l₀ l₁ l₂ l₃ l₄ : List ℕ} {r₁ r₂ r₃ r₄ : ℕ} → ns ≡ nodes t → es ≡ edges t
+      → AddedUpto l₀ 0 l₁ r₁ n (clashKept foes makers ends n) n → AddedUpto l₁ r₁ l₂ r₂ n (forkKept t node parents makers ends rows n) rows
+      → AddedUpto l₂ r₂ l₃ r₃ n (edgeKept t edge target home n) es → AddedUpto l₃ r₃ l₄ r₄ n (nodeKept t target home runs stock n) ns
+      → holds l₄ r₄ n c ≡ allowed t node parents makers foes ends edge target home runs stock rows n c
+  filled-says en ee h i j k = added-four h i j k c ∙ allowed-says en ee

@@ -1,6 +1,7 @@
 -- `rules::add_clashes` meets its contract: the rows say what they must of the ends below k. Assumes nothing.
-use mathlib.Core.Path.{_≡_, refl}
+use mathlib.Core.Path.{_≡_, refl, sym}
 use Prim.Native.Nat.{_≤_, _-_}
+use native.Mathlib.Nat.{le-trans, le-of-eq}
 use native.Mathlib.Omega.{arith}
 use lib.ListN.{length}
 use borrow.Author.Needs.{needs}
@@ -19,7 +20,11 @@ loop-holds : tie.Need-loop-holds Inv-loop μ-loop
 loop-holds c = let a = c .before .before .before .before .args in (search needs, refl, upto-none (clashKept (a .foes .now) (a .makers .now) (a .ends .now) (a .n)))
 
 add-clash-requires : tie.Need-add-clash-requires Inv-loop μ-loop
-add-clash-requires c κs = search needs
+add-clash-requires c κs =
+    let p = c .before .before .before .before .before .before .before .pre in
+    let l = c .before .before .loop in
+    let lt = c .before .loop-test .taken in
+    (omega (arith, p .0, l .inv .2 .few, lt), le-trans (p .1) (le-of-eq (sym (l .inv .1))), p .2, p .3, lt, p .4)
 
 add-k : tie.Need-add-k Inv-loop μ-loop
 add-k c = search needs

@@ -1,6 +1,7 @@
 -- `rules::add_edges` meets its contract: the rows say what they must of the edges below e. Assumes nothing.
-use mathlib.Core.Path.{_≡_, refl}
+use mathlib.Core.Path.{_≡_, refl, sym}
 use Prim.Native.Nat.{_≤_, _-_}
+use native.Mathlib.Nat.{le-trans, le-of-eq}
 use native.Mathlib.Omega.{arith}
 use lib.ListN.{length}
 use borrow.Author.Needs.{needs}
@@ -19,7 +20,11 @@ loop-holds : tie.Need-loop-holds Inv-loop μ-loop
 loop-holds c = let a = c .before .before .before .before .before .args in (search needs, refl, upto-none (edgeKept (a .t .now) (a .edge .now) (a .target .now) (a .home .now) (a .n)))
 
 add-edge-requires : tie.Need-add-edge-requires Inv-loop μ-loop
-add-edge-requires c κs = search needs
+add-edge-requires c κs =
+    let p = c .before .before .before .before .before .before .before .before .pre in
+    let l = c .before .before .loop in
+    let lt = c .before .loop-test .taken in
+    (omega (arith, p .0, l .inv .2 .few, lt), le-trans (p .1) (le-of-eq (sym (l .inv .1))), p .2, p .3, p .4, p .5, p .6, lt)
 
 add-e : tie.Need-add-e Inv-loop μ-loop
 add-e c = search needs

@@ -1,6 +1,7 @@
 -- `rules::add_forks` meets its contract: the rows say what they must of the offers below z. Assumes nothing.
-use mathlib.Core.Path.{_≡_, refl}
+use mathlib.Core.Path.{_≡_, refl, sym}
 use Prim.Native.Nat.{_≤_, _-_}
+use native.Mathlib.Nat.{le-trans, le-of-eq}
 use native.Mathlib.Omega.{arith}
 use lib.ListN.{length}
 use borrow.Author.Needs.{needs}
@@ -19,7 +20,11 @@ loop-holds : tie.Need-loop-holds Inv-loop μ-loop
 loop-holds c = let a = c .before .before .before .before .before .before .args in (search needs, refl, upto-none (forkKept (a .t .now) (a .node .now) (a .parents .now) (a .makers .now) (a .ends .now) (a .rows) (a .n)))
 
 add-fork-requires : tie.Need-add-fork-requires Inv-loop μ-loop
-add-fork-requires c κs = search needs
+add-fork-requires c κs =
+    let p = c .before .before .before .before .before .before .before .before .before .pre in
+    let l = c .before .before .loop in
+    let lt = c .before .loop-test .taken in
+    (omega (arith, p .0, l .inv .2 .few, lt), le-trans (p .1) (le-of-eq (sym (l .inv .1))), p .2, p .3, p .4, p .5, p .6, lt, p .7)
 
 add-z : tie.Need-add-z Inv-loop μ-loop
 add-z c = search needs

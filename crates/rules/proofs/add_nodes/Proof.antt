@@ -1,6 +1,7 @@
 -- `rules::add_nodes` meets its contract: the rows say what they must of the nodes below i. Assumes nothing.
-use mathlib.Core.Path.{_≡_, refl}
+use mathlib.Core.Path.{_≡_, refl, sym}
 use Prim.Native.Nat.{_≤_, _-_}
+use native.Mathlib.Nat.{le-trans, le-of-eq}
 use native.Mathlib.Omega.{arith}
 use lib.ListN.{length}
 use borrow.Author.Needs.{needs}
@@ -19,7 +20,11 @@ loop-holds : tie.Need-loop-holds Inv-loop μ-loop
 loop-holds c = let a = c .before .before .before .before .before .before .args in (search needs, refl, upto-none (nodeKept (a .t .now) (a .target .now) (a .home .now) (a .runs .now) (a .stock .now) (a .n)))
 
 add-node-requires : tie.Need-add-node-requires Inv-loop μ-loop
-add-node-requires c κs = search needs
+add-node-requires c κs =
+    let p = c .before .before .before .before .before .before .before .before .before .pre in
+    let l = c .before .before .loop in
+    let lt = c .before .loop-test .taken in
+    (omega (arith, p .0, l .inv .2 .few, lt), le-trans (p .1) (le-of-eq (sym (l .inv .1))), p .2, p .3, p .4, p .5, p .6, p .7, lt)
 
 add-i : tie.Need-add-i Inv-loop μ-loop
 add-i c = search needs

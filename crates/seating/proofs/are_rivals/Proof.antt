@@ -1,10 +1,21 @@
 -- `seating::are_rivals` meets its contract: an end is no rival of itself, and of others if their words meet. Assumes nothing.
-use mathlib.Core.Path.{sym}
+use mathlib.Core.Path.{_≡_}
+use mathlib.Core.Bool.{Bool}
+use mathlib.Core.List.{List}
+use Prim.Native.Nat.{ℕ}
 use native.Mathlib.Omega.{arith}
 use borrow.Author.Tests.{ne-eqb, eq-eqb}
 use borrow.Author.Needs.{needs}
+use Rattle.paper.specs.Lists.{at}
+use Rattle.rows.specs.Sets.{meets}
+use Rattle.seating.specs.Seating.{rival}
 use Rattle.seating.proofs.are_rivals.Statement.{statement}
 use Rattle.seating.proofs.are_rivals.Tie as tie
+
+-- two ends that are not the same are rivals if their words meet
+other-rival : (foes makers ends : List ℕ) (k j one other : ℕ) (r : Bool) → (j ≡ k → ⊥) → one ≡ at ends k → other ≡ at ends j → r ≡ meets (at foes one) (at makers one) (at foes other) (at makers other)
+    → r ≡ rival foes makers ends k j
+other-rival foes makers ends k j one other r ne e f h = rw (ne-eqb j k ne, ← e, ← f) h
 
 returns : tie.Need-returns
 returns c = simp (eq-eqb _ _ (c .if1 .taken))
@@ -61,7 +72,8 @@ compete-requires : tie.Need-compete-requires
 compete-requires c κs = search needs
 
 returns-2 : tie.Need-returns-2
-returns-2 c = simp (ne-eqb _ _ (c .before .before .before .before .before .before .before .before .before .if1 .left), sym (c .before .before .before .before .before .before .before .wide .ensures .0), sym (c .before .before .before .before .before .wide2 .ensures .0)) (c .compete .ensures)
+returns-2 c = let a = c .before .before .before .before .before .before .before .before .before .before .before .before .before .args in
+    other-rival (a .foes .now) (a .makers .now) (a .ends .now) (a .k) (a .j) _ _ _ (c .before .before .before .before .before .before .before .before .before .if1 .left) (c .before .before .before .before .before .before .before .wide .ensures .0) (c .before .before .before .before .before .wide2 .ensures .0) (c .compete .ensures)
 
 pub are-rivals-spec : {M : Type 1} → statement M
 are-rivals-spec =
