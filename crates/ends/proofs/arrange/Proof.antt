@@ -22,7 +22,7 @@ returns c =
     (tt, told-many (a .t .now) (a .last .now) (a .many .now) (a .before .now) (a .from .now) (a .to .now) (a .rows .now) (a .order .now) (a .lens .now) (a .cells .now) (c .before .before .collect .ensures .many (c .if1 .taken)))
 
 slice-aggregate-put-in-order : tie.Need-slice-aggregate-put-in-order
-slice-aggregate-put-in-order c = search needs
+slice-aggregate-put-in-order c = omega (arith, c .before .before .before .collect .kept)
 
 slice-aggregate-put-in-order-2 : tie.Need-slice-aggregate-put-in-order-2
 slice-aggregate-put-in-order-2 c = search needs
@@ -49,10 +49,10 @@ put-in-order-requires c κs =
     )
 
 slice-aggregate-lay-rows : tie.Need-slice-aggregate-lay-rows
-slice-aggregate-lay-rows c = search needs
+slice-aggregate-lay-rows c = omega (arith, c .before .before .before .before .before .before .before .put-in-order .kept, c .before .before .before .before .before .before .before .before .before .before .before .before .before .before .before .collect .kept)
 
 slice-aggregate-lay-rows-2 : tie.Need-slice-aggregate-lay-rows-2
-slice-aggregate-lay-rows-2 c = search needs
+slice-aggregate-lay-rows-2 c = omega (arith, c .before .before .before .before .before .before .before .before .before .before .before .before .before .before .before .before .before .before .before .before .before .before .before .before .before .before .before .before .pre, c .before .before .before .before .before .before .before .before .put-in-order .kept, c .before .before .before .before .before .before .before .before .before .before .before .before .before .before .before .before .collect .kept)
 
 lay-rows-requires : tie.Need-lay-rows-requires
 lay-rows-requires c κs =
@@ -66,10 +66,10 @@ lay-rows-requires c κs =
     )
 
 slice-aggregate-lay-paths : tie.Need-slice-aggregate-lay-paths
-slice-aggregate-lay-paths c = search needs
+slice-aggregate-lay-paths c = omega (arith, c .before .before .before .before .before .before .before .before .before .before .before .before .before .before .before .before .before .before .before .before .before .before .before .before .before .before .before .before .before .before .before .before .before .pre, c .before .before .before .lay-rows .kept, c .before .before .before .before .before .before .before .before .before .before .before .before .before .put-in-order .kept, c .before .before .before .before .before .before .before .before .before .before .before .before .before .before .before .before .before .before .before .before .before .collect .kept)
 
 slice-aggregate-lay-paths-2 : tie.Need-slice-aggregate-lay-paths-2
-slice-aggregate-lay-paths-2 c = search needs
+slice-aggregate-lay-paths-2 c = omega (arith, c .before .before .before .before .lay-rows .kept, c .before .before .before .before .before .before .before .before .before .before .before .before .before .before .put-in-order .kept, c .before .before .before .before .before .before .before .before .before .before .before .before .before .before .before .before .before .before .before .before .before .before .collect .kept)
 
 lay-paths-requires : tie.Need-lay-paths-requires
 lay-paths-requires c κs =
@@ -83,16 +83,16 @@ lay-paths-requires c κs =
     )
 
 same-length : tie.Need-same-length
-same-length c = search needs
+same-length c = c .before .before .before .before .before .before .before .before .lay-rows .kept .1 .1 .1 .0
 
 same-length-2 : tie.Need-same-length-2
-same-length-2 c = search needs
+same-length-2 c = c .before .before .lay-paths .kept .1 .1 .1 .0
 
 same-length-3 : tie.Need-same-length-3
-same-length-3 c = search needs
+same-length-3 c = c .before .before .before .before .before .before .before .before .before .before .before .before .before .before .before .before .before .before .put-in-order .kept .1 .1 .1 .1 .1 .1 .1 .0
 
 same-length-4 : tie.Need-same-length-4
-same-length-4 c = search needs
+same-length-4 c = c .before .before .before .before .before .before .before .before .before .before .before .before .before .before .before .before .before .before .put-in-order .kept .1 .1 .1 .1 .1 .1 .1 .1 .0
 
 returns-2 : tie.Need-returns-2
 returns-2 c =

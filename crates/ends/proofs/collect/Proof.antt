@@ -55,7 +55,7 @@ add-result : tie.Need-add-result Inv-loop μ-loop
 add-result c = search needs
 
 same-length : tie.Need-same-length Inv-loop μ-loop
-same-length c = search needs
+same-length c = omega (arith, c .before .before .before .before .before .before .before .before .before .before .before .loop .inv, c .if3 .taken)
 
 returns : tie.Need-returns Inv-loop μ-loop
 returns c =
@@ -81,13 +81,13 @@ sub-n : tie.Need-sub-n Inv-loop μ-loop
 sub-n c = omega (arith, c .before .before .before .before .before .wide2 .ensures .0, c .before .before .before .before .before .before .before .wide .ensures .0, c .before .before .before .before .before .before .before .before .before .before .before .before .before .before .before .before .before .before .before .before .pre .1 .0 .0 (c .before .before .before .before .before .before .before .before .before .before .before .before .before .before .before .loop .e) .0)
 
 add-n : tie.Need-add-n Inv-loop μ-loop
-add-n c = search needs
+add-n c = omega (arith, c .before .before .before .before .before .before .before .before .before .before .before .before .before .before .before .before .before .before .before .before .pre)
 
 add-e : tie.Need-add-e Inv-loop μ-loop
-add-e c = search needs
+add-e c = omega (arith, c .before .before .before .before .before .before .loop .inv, c .before .before .before .before .if1 .taken)
 
 loop-less : tie.Need-loop-less Inv-loop μ-loop
-loop-less c = search needs
+loop-less c = omega arith
 
 loop-again : tie.Need-loop-again Inv-loop μ-loop
 loop-again c =
@@ -108,7 +108,7 @@ loop-again c =
     (c .if2 .came)
 
 same-length-2 : tie.Need-same-length-2 Inv-loop μ-loop
-same-length-2 c = search needs
+same-length-2 c = omega (arith, c .if1 .left)
 
 returns-2 : tie.Need-returns-2 Inv-loop μ-loop
 returns-2 c =
