@@ -1,23 +1,38 @@
 -- `edge_fine` is row 3 at an edge: each test that fails makes the whole false. Assumes nothing.
 use mathlib.Core.Path.{_≡_, sym, _∙_}
-use mathlib.Core.Bool.{true, false, and-false}
+use mathlib.Core.Bool.{Bool, true, false, and-false}
+use mathlib.Core.List.{List}
+use Prim.Native.Nat.{ℕ, _≤_, _<_}
 use native.Mathlib.Omega.{arith}
-use lib.Dec.{leb, ltb}
+use lib.Dec.{eqb, leb, ltb}
 use borrow.Author.Tests.{not-true, not-false, le-leb, lt-leb, lt-ltb, le-ltb}
 use borrow.Author.Needs.{needs}
-use Rattle.paper.specs.Table.{nodes, source, target, guarded, edgeFine}
+use Rattle.paper.specs.Table.{nodes, kind, edgeKind, source, target, guarded, mayLeave, mayEnter, edgeFine}
 use Rattle.checking.proofs.edge_fine.Statement.{statement}
 use Rattle.checking.proofs.edge_fine.Tie as tie
 
+-- what the tests of an edge's fields say of the edge
+module _ (t : List ℕ) (j : ℕ) {k s m : ℕ} (ek : k ≡ edgeKind t j) (es : s ≡ source t j) (em : m ≡ kind t s) where
+  leave-bad : mayLeave (eqb k 1) m ≡ false → false ≡ edgeFine t j
+  unfolding edgeFine
+  leave-bad h = rw (← ek, ← es) (rw (← em) (simp (h, and-false)))
+
+  edge-by : {o g n : ℕ} {r : Bool} → o ≡ target t j → n ≡ kind t o → g ≡ guarded t j → k ≤ 1 → s < nodes t → o < nodes t → g ≤ 1
+      → mayLeave (eqb k 1) m ≡ true → r ≡ mayEnter (eqb k 1) n → r ≡ edgeFine t j
+  unfolding edgeFine
+  edge-by eo en eg lk ls lo lg hl h =
+      rw (← ek, ← es, ← eo, ← eg)
+      (rw (← em, ← en) (rw (le-leb _ _ lk, lt-ltb _ _ ls, lt-ltb _ _ lo, le-leb _ _ lg, hl) h))
+
 edge-kind-requires : tie.Need-edge-kind-requires
-edge-kind-requires c κs = search needs
+edge-kind-requires c κs = c .before .pre
 
 returns : tie.Need-returns
 unfolding edgeFine
 returns c = rw (← c .before .edge-kind .ensures .0) (rw (lt-leb _ _ (c .if1 .taken)))
 
 source-requires : tie.Need-source-requires
-source-requires c κs = search needs
+source-requires c κs = c .before .before .before .pre
 
 returns-2 : tie.Need-returns-2
 unfolding edgeFine
@@ -27,7 +42,7 @@ returns-2 c =
     simp (f, and-false)
 
 target-requires : tie.Need-target-requires
-target-requires c κs = search needs
+target-requires c κs = c .before .before .before .before .before .before .pre
 
 returns-3 : tie.Need-returns-3
 unfolding edgeFine
@@ -37,7 +52,7 @@ returns-3 c =
     simp (f, and-false)
 
 guarded-requires : tie.Need-guarded-requires
-guarded-requires c κs = search needs
+guarded-requires c κs = c .before .before .before .before .before .before .before .before .before .pre
 
 returns-4 : tie.Need-returns-4
 unfolding edgeFine
@@ -53,10 +68,7 @@ may-leave-requires : tie.Need-may-leave-requires
 may-leave-requires c κs = search needs
 
 returns-5 : tie.Need-returns-5
-unfolding edgeFine
-returns-5 c = rw (← c .before .before .before .before .before .before .before .before .before .before .before .before .edge-kind .ensures .0, ← c .before .before .before .before .before .before .before .before .before .before .source .ensures .0)
-    (rw (← c .before .before .kind .ensures .0)
-    (simp (sym (c .before .may-leave .ensures) ∙ not-true _ (c .if5 .taken), and-false)))
+returns-5 c = leave-bad (c .before .before .before .before .before .before .before .before .before .before .before .before .before .before .args .s .now) (c .before .before .before .before .before .before .before .before .before .before .before .before .before .before .args .j) (c .before .before .before .before .before .before .before .before .before .before .before .before .edge-kind .ensures .0) (c .before .before .before .before .before .before .before .before .before .before .source .ensures .0) (c .before .before .kind .ensures .0) (sym (c .before .may-leave .ensures) ∙ not-true _ (c .if5 .taken))
 
 kind-requires-2 : tie.Need-kind-requires-2
 kind-requires-2 c κs = search needs
@@ -65,16 +77,11 @@ may-enter-requires : tie.Need-may-enter-requires
 may-enter-requires c κs = search needs
 
 returns-6 : tie.Need-returns-6
-unfolding edgeFine
 returns-6 c =
-    let a = c .before .before .before .before .before .before .before .before .before .before .before .before .before .before .before .before .args in
-    let f1 : leb (c .before .before .before .before .before .before .before .before .before .before .before .before .before .before .edge-kind .result) 1 ≡ true = omega (arith, le-leb) in
-    let f2 : ltb (c .before .before .before .before .before .before .before .before .before .before .before .before .source .result) (nodes (a .s .now)) ≡ true = omega (arith, lt-ltb) in
-    let f3 : ltb (c .before .before .before .before .before .before .before .before .before .target .result) (nodes (a .s .now)) ≡ true = omega (arith, lt-ltb) in
-    let f4 : leb (c .before .before .before .before .before .before .guarded .result) 1 ≡ true = omega (arith, le-leb) in
-    rw (← c .before .before .before .before .before .before .before .before .before .before .before .before .before .before .edge-kind .ensures .0, ← c .before .before .before .before .before .before .before .before .before .before .before .before .source .ensures .0, ← c .before .before .before .before .before .before .before .before .before .target .ensures .0, ← c .before .before .before .before .before .before .guarded .ensures .0)
-    (rw (← c .before .before .before .before .kind .ensures .0, ← c .before .kind2 .ensures .0)
-    (rw (f1, f2, f3, f4, sym (c .before .before .before .may-leave .ensures) ∙ not-false _ (c .before .before .if5 .left)) (c .may-enter .ensures)))
+    let r = c .before .before .before .before .before .before .before .before .before .before .before .before .before .before .before .before .pre .0 .nodes-read in
+    edge-by (c .before .before .before .before .before .before .before .before .before .before .before .before .before .before .before .before .args .s .now) (c .before .before .before .before .before .before .before .before .before .before .before .before .before .before .before .before .args .j) (c .before .before .before .before .before .before .before .before .before .before .before .before .before .before .edge-kind .ensures .0) (c .before .before .before .before .before .before .before .before .before .before .before .before .source .ensures .0) (c .before .before .before .before .kind .ensures .0) (c .before .before .before .before .before .before .before .before .before .target .ensures .0) (c .before .kind2 .ensures .0) (c .before .before .before .before .before .before .guarded .ensures .0)
+    (omega (arith, c .before .before .before .before .before .before .before .before .before .before .before .before .before .if1 .left)) (omega (arith, r, c .before .before .before .before .before .before .before .before .before .before .if2 .left)) (omega (arith, r, c .before .before .before .before .before .before .before .if3 .left)) (omega (arith, c .before .before .before .before .before .if4 .left))
+    (sym (c .before .before .before .may-leave .ensures) ∙ not-false _ (c .before .before .if5 .left)) (c .may-enter .ensures)
 
 pub edge-fine-spec : {M : Type 1} → statement M
 edge-fine-spec =
