@@ -28,10 +28,10 @@ gains-requires : tie.Need-gains-requires Inv-loop μ-loop
 gains-requires c κs = let h = c .before .before .before .before .before .pre in (h .0, omega arith, h .1)
 
 slice-read-if2 : tie.Need-slice-read-if2 Inv-loop μ-loop
-slice-read-if2 c = search needs
+slice-read-if2 c = omega arith
 
 same-length : tie.Need-same-length Inv-loop μ-loop
-same-length c = search needs
+same-length c = omega (arith, c .if2 .taken)
 
 returns : tie.Need-returns Inv-loop μ-loop
 returns c = let a = c .before .before .before .before .before .before .before .before .before .args in
@@ -49,13 +49,13 @@ add-tokens : tie.Need-add-tokens Inv-loop μ-loop
 add-tokens c = omega (arith, (c .slice-known3 .given (c .before .before .before .before .before .before .loop .j)) .fits)
 
 slice-write-tokens : tie.Need-slice-write-tokens Inv-loop μ-loop
-slice-write-tokens c = search needs
+slice-write-tokens c = omega (arith, c .before .before .before .before .before .before .before .before .before .before .pre)
 
 add-j : tie.Need-add-j Inv-loop μ-loop
 add-j c = search needs
 
 loop-less : tie.Need-loop-less Inv-loop μ-loop
-loop-less c = search needs
+loop-less c = omega (arith, c .before .before .loop-test .taken, c .before .before .before .before .before .before .before .pre)
 
 loop-again : tie.Need-loop-again Inv-loop μ-loop
 loop-again c = let a = c .before .before .before .before .before .before .before .args in
@@ -76,7 +76,7 @@ loop-again c = let a = c .before .before .before .before .before .before .before
     (c .if1 .came)
 
 same-length-2 : tie.Need-same-length-2 Inv-loop μ-loop
-same-length-2 c = search needs
+same-length-2 c = omega (arith, c .loop-test .left)
 
 returns-2 : tie.Need-returns-2 Inv-loop μ-loop
 returns-2 c = let a = c .before .before .before .before .before .args in

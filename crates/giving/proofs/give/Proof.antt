@@ -16,7 +16,7 @@ read-values-requires : tie.Need-read-values-requires
 read-values-requires c κs = let h = c .before .before .before .before .before .before .before .before .before .pre in (read-spans (c .before .before .before .before .before .before .before .before .before .args .t .now) (h .0), h .3, h .4)
 
 enum-known-number : tie.Need-enum-known-number
-enum-known-number c = search needs
+enum-known-number c = omega arith
 
 same-length : tie.Need-same-length
 same-length c = c .before .before .before .before .before .before .before .read-values .kept .1 .1 .1 .1 .1 .0
@@ -109,7 +109,7 @@ returns-4 c = let a = c .before .before .before .before .before .before .before 
     let fit = sym (c .before .before .before .before .before .before .stocks-fit .ensures _ am) ∙ not-false _ (c .before .before .before .before .before .if1 .left) in
     let g = w .ensures fires (m .tokens) (ready .firing) (ready .counts-held) in
     gives-all t (a .kind) (a .owner) fires m b old from (a .kept .now) (v .last .1 .1 .1 .1 .1 .0) (v .last .1 .1 .1 .1 .1 .1 .0) runs (a .tokens .now) (w .last .1 .1 .1 .0) (a .fire .now) ready h fit
-    (read-good t (p .0)) (omega arith) (omega arith) (omega (arith, v .kept)) (omega (arith, v .kept)) (omega arith) (omega (arith, w .kept))
+    (read-good t (p .0)) (omega (arith, sp .nodes-read, lf)) (omega (arith, sp .nodes-read, p .2)) (omega (arith, sp .nodes-read, p .3, v .kept .1 .1 .1 .1 .1 .0)) (omega (arith, sp .nodes-read, p .4, v .kept .1 .1 .1 .1 .1 .1 .0)) (omega (arith, sp .nodes-read, lr)) (omega (arith, sp .edges-read, p .5, w .kept .1 .1 .1 .0))
     (sym (not-false _ (c .if2 .left)) ∙ g .0, λ r. g .1 (not-false _ (c .if2 .left) ∙ r))
 
 pub give-spec : {M : Type 1} → statement M

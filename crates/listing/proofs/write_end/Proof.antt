@@ -14,7 +14,7 @@ shared-slice-read-wide : tie.Need-shared-slice-read-wide
 shared-slice-read-wide c = let p = c .before .before .before .before .before .before .before .before .before .before .pre in omega (arith, p .0 .measured .ends-there)
 
 wide-requires : tie.Need-wide-requires
-wide-requires c κs = search needs
+wide-requires c κs = omega arith
 
 shared-slice-read-write-front : tie.Need-shared-slice-read-write-front
 shared-slice-read-write-front c = let p = c .before .before .before .before .before .before .before .before .before .before .before .before .pre in let m = p .0 .measured in omega (arith, m .inside (c .before .before .before .before .before .before .before .before .before .before .before .before .args .k) (p .1), p .0 .lasts, c .before .wide .ensures .0)
@@ -42,7 +42,7 @@ wide-requires-2 : tie.Need-wide-requires-2
 wide-requires-2 c κs = search needs
 
 add-write-paths : tie.Need-add-write-paths
-add-write-paths c = search needs
+add-write-paths c = omega (arith, c .before .before .before .before .before .before .before .before .before .before .before .before .before .before .before .before .before .before .before .before .before .before .pre)
 
 write-paths-requires : tie.Need-write-paths-requires
 unfolding endTakes

@@ -9,13 +9,13 @@ use Rattle.writing.proofs.write_stock.Statement.{statement}
 use Rattle.writing.proofs.write_stock.Tie as tie
 
 add-behind : tie.Need-add-behind
-add-behind c = search needs
+add-behind c = omega arith
 
 wide-requires : tie.Need-wide-requires
 wide-requires c κs = search needs
 
 mul-behind : tie.Need-mul-behind
-mul-behind c = search needs
+mul-behind c = omega arith
 
 add-behind-2 : tie.Need-add-behind-2
 add-behind-2 c = search needs
@@ -33,7 +33,7 @@ mul-copy : tie.Need-mul-copy
 mul-copy c = search needs
 
 add-copy : tie.Need-add-copy
-add-copy c = search needs
+add-copy c = omega arith
 
 copy-requires : tie.Need-copy-requires
 copy-requires c κs = (omega arith, simp length-set (omega arith))
@@ -42,7 +42,7 @@ wide-requires-3 : tie.Need-wide-requires-3
 wide-requires-3 c κs = search needs
 
 mul-copy-2 : tie.Need-mul-copy-2
-mul-copy-2 c = search needs
+mul-copy-2 c = omega arith
 
 copy-requires-2 : tie.Need-copy-requires-2
 copy-requires-2 c κs = let e = c .before .before .before .before .copy .ensures in (omega arith, omega (arith, simp (length-sets, length-set) at (ap length e)))
@@ -51,7 +51,7 @@ wide-requires-4 : tie.Need-wide-requires-4
 wide-requires-4 c κs = search needs
 
 mul-result : tie.Need-mul-result
-mul-result c = search needs
+mul-result c = omega arith
 
 add-result : tie.Need-add-result
 add-result c = search needs
