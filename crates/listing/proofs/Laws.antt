@@ -70,6 +70,16 @@ module _ {last has value many rows order lens cells : List ℕ} {n : ℕ} (s : S
       let seven : length (at last i ∷ x ++ (at many i ∷ [])) ≡ 7 = omega (arith, length-append x (at many i ∷ []), length-value (at has i) (at value i)) in
       sets-then (at last i ∷ x ++ (at many i ∷ [])) g d to (to + 7) (omega (arith, seven)) ∙ ap (λ (l : List ℕ). sets d to (at last i ∷ l)) (append-assoc x (at many i ∷ []) g)
 
+  -- its front is written, and then its paths
+  module _ (to k : ℕ) {i m : ℕ} (ei : i ≡ at rows k) (em : m ≡ at many i) where
+    pub end-takes : to + 7 + total (pathTakes order lens k) m ≡ to + endTakes many rows order lens k
+    unfolding endTakes
+    end-takes = rw (em, ei) (omega arith)
+
+    pub end-written : (d : List ℕ) {e : List ℕ} → e ≡ sets d to (at last i ∷ valueShown (at has i) (at value i) ++ (at many i ∷ []))
+        → sets e (to + 7) (gather (pathOf order lens cells k) (below m)) ≡ sets d to (endShown last has value many rows order lens cells k)
+    end-written d h = rw (h, em, ei) (end-is d to k)
+
   -- ---- the sheet
   pub length-ends : length (gather (endShown last has value many rows order lens cells) (below n)) ≡ total (endTakes many rows order lens) n
   length-ends = length-total (endShown last has value many rows order lens cells) (endTakes many rows order lens) n (λ k l. length-end k l)

@@ -32,6 +32,10 @@ module _ (old : List ℕ) (from kept : ℕ) (extra : List ℕ) (place more : ℕ
       sets-then (take (4 * kept) (drop from old)) (take (4 * more) (drop place extra)) (set d to (kept + more)) (to + 1) p (omega (arith, part-length old from (4 * kept) h))
       ∙ rw (add-one to)
 
+  pub stock-written : (d : List ℕ) (to : ℕ) {e : List ℕ} {p k m : ℕ} → k ≡ kept → m ≡ more → p ≡ to + 1 + 4 * kept → e ≡ sets (set d to (kept + more)) (to + 1) (take (4 * k) (drop from old))
+      → sets e p (take (4 * m) (drop place extra)) ≡ sets d to (stockBytes old from kept extra place more)
+  stock-written d to {p = p} ek em ep h = rw (h, em, ek) (stock-is d to p ep)
+
   length-stock : place + 4 * more ≤ length extra → length (stockBytes old from kept extra place more) ≡ 1 + 4 * (kept + more)
   unfolding stockBytes
   length-stock k =

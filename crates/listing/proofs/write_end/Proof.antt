@@ -1,11 +1,9 @@
 -- `write_end` stores what stands before the paths, and the paths behind it. Assumes nothing.
-use Prim.Native.Nat.{ℕ}
 use mathlib.Core.Path.{_≡_, ap, _∙_}
 use native.Mathlib.Omega.{arith}
 use Rattle.paper.specs.Lists.{at}
-use Rattle.wire.specs.Totals.{total}
-use Rattle.listing.specs.Listing.{pathTakes, endTakes}
-use Rattle.listing.proofs.Laws.{end-is}
+use Rattle.listing.specs.Listing.{endTakes}
+use Rattle.listing.proofs.Laws.{end-takes, end-written}
 use borrow.Author.Needs.{needs}
 use Rattle.listing.proofs.write_end.Statement.{statement}
 use Rattle.listing.proofs.write_end.Tie as tie
@@ -45,33 +43,30 @@ add-write-paths : tie.Need-add-write-paths
 add-write-paths c = omega (arith, c .before .before .before .before .before .before .before .before .before .before .before .before .before .before .before .before .before .before .before .before .before .before .pre)
 
 write-paths-requires : tie.Need-write-paths-requires
-unfolding endTakes
 write-paths-requires c κs = let p = c .before .before .before .before .before .before .before .before .before .before .before .before .before .before .before .before .before .before .before .before .before .before .pre in
     let a = c .before .before .before .before .before .before .before .before .before .before .before .before .before .before .before .before .before .before .before .before .before .before .args in
     let m = p .0 .measured in
-    let e : c .before .wide2 .result ≡ at (a .many .now) (at (a .rows .now) (a .k)) = c .before .wide2 .ensures .0 ∙ ap (at (a .many .now)) (c .before .before .before .before .before .before .before .before .before .before .before .wide .ensures .0) in
-    let few = m .paths-few (a .k) (p .1) in
-    let z = ap (λ (x : ℕ). total (pathTakes (a .order .now) (a .lens .now) (a .k)) x) e in (
-      (omega (arith, m .few, m .orders, e), omega (arith, e)),
-      λ j l. m .blocks (a .k) j (p .1) (omega (arith, e)),
-      λ j l. m .short (a .k) j (p .1) (omega (arith, e)),
+    let i = c .before .before .before .before .before .before .before .before .before .before .before .wide .ensures .0 in
+    let e : c .before .wide2 .result ≡ at (a .many .now) (at (a .rows .now) (a .k)) = c .before .wide2 .ensures .0 ∙ ap (at (a .many .now)) i in
+    let few = m .paths-few (a .k) (p .1) in (
+      (omega (arith, p .1, m .few, m .orders, e, few), omega (arith, e, few)),
+      λ j l. m .blocks (a .k) j (p .1) (omega (arith, e, l)),
+      λ j l. m .short (a .k) j (p .1) (omega (arith, e, l)),
       m .lengths,
       p .0 .cells-there,
-      omega (arith, p .2, z, c .before .before .before .before .before .write-front .kept),
+      omega (arith, p .2, end-takes (p .0) (a .to) (a .k) i (c .before .wide2 .ensures .0), c .before .before .before .before .before .write-front .kept .1 .1 .1 .1 .0),
     )
 
 same-length : tie.Need-same-length
 same-length c = c .before .before .write-paths .kept .1 .1 .1 .1 .1 .0 ∙ c .before .before .before .before .before .before .before .before .write-front .kept .1 .1 .1 .1 .0
 
 returns : tie.Need-returns
-unfolding endTakes
 returns c = let p = c .before .before .before .before .before .before .before .before .before .before .before .before .before .before .before .before .before .before .before .before .before .before .before .before .before .pre in
     let a = c .before .before .before .before .before .before .before .before .before .before .before .before .before .before .before .before .before .before .before .before .before .before .before .before .before .args in
-    let i : c .before .before .before .before .before .before .before .before .before .before .before .before .before .before .wide .result ≡ at (a .rows .now) (a .k) = c .before .before .before .before .before .before .before .before .before .before .before .before .before .before .wide .ensures .0 in
-    let e : c .before .before .before .before .wide2 .result ≡ at (a .many .now) (at (a .rows .now) (a .k)) = c .before .before .before .before .wide2 .ensures .0 ∙ ap (at (a .many .now)) i in
+    let i = c .before .before .before .before .before .before .before .before .before .before .before .before .before .before .wide .ensures .0 in
+    let m = c .before .before .before .before .wide2 .ensures .0 in
     let w = c .before .before .write-paths .ensures in
-    let z = ap (λ (x : ℕ). total (pathTakes (a .order .now) (a .lens .now) (a .k)) x) e in
-    (omega (arith, w .0, z), w .1 ∙ rw (c .before .before .before .before .before .before .before .before .write-front .ensures, e, i) (end-is (p .0) (a .out .now) (a .to) (a .k)))
+    (w .0 ∙ end-takes (p .0) (a .to) (a .k) i m, w .1 ∙ end-written (p .0) (a .to) (a .k) i m (a .out .now) (c .before .before .before .before .before .before .before .before .write-front .ensures))
 
 pub write-end-spec : {M : Type 1} → statement M
 write-end-spec =

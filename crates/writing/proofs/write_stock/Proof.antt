@@ -1,9 +1,9 @@
 -- `write_stock` stores a count and two copies, each behind the other, which are one run. Assumes nothing.
-use mathlib.Core.Path.{_≡_, ap, _∙_}
+use mathlib.Core.Path.{_∙_}
+use Prim.Native.Nat.{_+_}
 use native.Mathlib.Omega.{arith}
-use lib.ListN.{length, length-set}
-use lib.Seq.{length-sets}
-use Rattle.writing.proofs.WritingLaws.{stock-is}
+use lib.ListN.{length-set}
+use Rattle.writing.proofs.WritingLaws.{stock-written}
 use borrow.Author.Needs.{needs}
 use Rattle.writing.proofs.write_stock.Statement.{statement}
 use Rattle.writing.proofs.write_stock.Tie as tie
@@ -45,7 +45,10 @@ mul-copy-2 : tie.Need-mul-copy-2
 mul-copy-2 c = omega arith
 
 copy-requires-2 : tie.Need-copy-requires-2
-copy-requires-2 c κs = let e = c .before .before .before .before .copy .ensures in (omega arith, omega (arith, simp (length-sets, length-set) at (ap length e)))
+copy-requires-2 c κs = let p = c .before .before .before .before .before .before .before .before .before .before .before .pre in
+    let a = c .before .before .before .before .before .before .before .before .before .before .before .args in
+    let m = c .before .wide3 .ensures .0 in
+    (omega (arith, p .2, m), omega (arith, p .3, m, c .before .before .before .before .before .before .before .wide .ensures .0, c .before .before .before .before .copy .kept .1 .1 .1 .0 ∙ length-set (a .out .now) (a .to) (a .kept + a .more)))
 
 wide-requires-4 : tie.Need-wide-requires-4
 wide-requires-4 c κs = search needs
@@ -57,13 +60,15 @@ add-result : tie.Need-add-result
 add-result c = search needs
 
 same-length : tie.Need-same-length
-same-length c = let e = c .before .before .before .before .before .before .before .before .copy .ensures in omega (arith, simp (length-sets, length-set) at (ap length e))
+same-length c = let a = c .before .before .before .before .before .before .before .before .before .before .before .before .before .before .before .args in c .before .before .before .copy2 .kept .1 .1 .1 .0 ∙ c .before .before .before .before .before .before .before .before .copy .kept .1 .1 .1 .0 ∙ length-set (a .out .now) (a .to) (a .kept + a .more)
 
 returns : tie.Need-returns
 returns c = let a = c .before .before .before .before .before .before .before .before .before .before .before .before .before .before .before .args in
-    let w : c .before .before .before .before .before .before .before .before .before .before .wide2 .result ≡ a .kept = omega arith in
-    let v : c .before .before .before .before .before .wide3 .result ≡ a .more = omega arith in
-    (omega arith, c .before .before .before .copy2 .ensures ∙ rw (c .before .before .before .before .before .before .before .before .copy .ensures, w, v) (stock-is (a .old .now) (a .from) (a .kept) (a .extra .now) (a .place) (a .more) (omega arith) (a .out .now) (a .to) _ (omega arith)))
+    let w = c .before .before .before .before .before .before .before .before .before .before .before .wide .ensures .0 in (
+      omega (arith, w, c .wide4 .ensures .0),
+      c .before .before .before .copy2 .ensures
+          ∙ stock-written (a .old .now) (a .from) (a .kept) (a .extra .now) (a .place) (a .more) (c .before .before .before .before .before .before .before .before .before .before .before .before .before .before .before .pre .1) (a .out .now) (a .to) (c .before .before .before .before .before .before .before .before .before .before .wide2 .ensures .0) (c .before .before .before .before .before .wide3 .ensures .0) (omega (arith, w)) (c .before .before .before .before .before .before .before .before .copy .ensures),
+    )
 
 pub write-stock-spec : {M : Type 1} → statement M
 write-stock-spec =
