@@ -12,7 +12,7 @@ use Rattle.delivering.proofs.finish.Statement.{statement}
 use Rattle.delivering.proofs.finish.Tie as tie
 
 slice-aggregate-take-up : tie.Need-slice-aggregate-take-up
-slice-aggregate-take-up c = search needs
+slice-aggregate-take-up c = omega arith
 
 slice-aggregate-take-up-2 : tie.Need-slice-aggregate-take-up-2
 slice-aggregate-take-up-2 c = search needs
@@ -29,13 +29,13 @@ take-up-requires c κs = let t = c .before .before .before .before .before .befo
     (e, most-nodes t e, most-nodes t e, most-nodes t e, most-edges t e)
 
 enum-told : tie.Need-enum-told
-enum-told c = search needs
+enum-told c = omega arith
 
 enum-told-2 : tie.Need-enum-told-2
-enum-told-2 c = search needs
+enum-told-2 c = omega arith
 
 pack-requires : tie.Need-pack-requires
-pack-requires c κs = search needs
+pack-requires c κs = omega arith
 
 returns : tie.Need-returns
 returns c = let a = c .before .before .before .before .before .before .before .before .before .before .before .before .before .before .before .before .args in
@@ -44,7 +44,7 @@ returns c = let a = c .before .before .before .before .before .before .before .b
     record { answer = _; allowed = sym (finish-6 (a .t .now) (a .b .now) (a .action) (a .values .now) e (u .last .1 .1 .1 .0) (u .last .1 .1 .1 .1 .0) (u .last .1 .1 .1 .1 .1 .0) (u .last .1 .1 .1 .1 .1 .1 .0) (u .result) (u .ensures) (c .before .enum-told2 .given .1)); reply = (c .pack .ensures, refl) }
 
 enum-known-number : tie.Need-enum-known-number
-enum-known-number c = search needs
+enum-known-number c = omega arith
 
 pack-requires-2 : tie.Need-pack-requires-2
 pack-requires-2 c κs = search needs
@@ -59,7 +59,7 @@ wide-requires : tie.Need-wide-requires
 wide-requires c κs = search needs
 
 slice-aggregate-running : tie.Need-slice-aggregate-running
-slice-aggregate-running c = search needs
+slice-aggregate-running c = omega arith
 
 running-requires : tie.Need-running-requires
 running-requires c κs = let t = c .before .before .before .before .before .before .before .before .before .before .before .before .before .before .before .before .before .args .t .now in
@@ -70,7 +70,7 @@ enum-known-number-2 : tie.Need-enum-known-number-2
 enum-known-number-2 c = search needs
 
 pack-requires-3 : tie.Need-pack-requires-3
-pack-requires-3 c κs = search needs
+pack-requires-3 c κs = omega arith
 
 returns-3 : tie.Need-returns-3
 returns-3 c = let a = c .before .before .before .before .before .before .before .before .before .before .before .before .before .before .before .before .before .before .before .before .before .before .args in
@@ -88,13 +88,13 @@ slice-aggregate-conclude : tie.Need-slice-aggregate-conclude
 slice-aggregate-conclude c = search needs
 
 slice-aggregate-conclude-2 : tie.Need-slice-aggregate-conclude-2
-slice-aggregate-conclude-2 c = search needs
+slice-aggregate-conclude-2 c = omega arith
 
 slice-aggregate-conclude-3 : tie.Need-slice-aggregate-conclude-3
-slice-aggregate-conclude-3 c = search needs
+slice-aggregate-conclude-3 c = omega arith
 
 slice-aggregate-conclude-4 : tie.Need-slice-aggregate-conclude-4
-slice-aggregate-conclude-4 c = search needs
+slice-aggregate-conclude-4 c = omega arith
 
 conclude-requires : tie.Need-conclude-requires
 conclude-requires c κs = let a = c .before .before .before .before .before .before .before .before .before .before .before .before .before .before .before .before .before .before .before .before .before .before .before .before .before .args in
@@ -102,7 +102,7 @@ conclude-requires c κs = let a = c .before .before .before .before .before .bef
     let e = c .before .before .before .before .before .before .before .before .before .before .before .before .before .before .before .before .before .before .before .before .before .before .before .before .before .pre in
     let l = (live-read (a .t .now) (a .b .now) (u .last .1 .1 .1 .0) (u .last .1 .1 .1 .1 .0) (u .last .1 .1 .1 .1 .1 .0) (u .last .1 .1 .1 .1 .1 .1 .0) (u .result) (u .ensures) (c .before .before .before .before .before .before .before .before .before .before .enum-told .given .1)) in
     let n = need-passed 14 (runsIn (a .t .now) (l .current) (c .before .before .before .before .before .before .before .before .before .wide .result)) (sym (ap saidOfRunning (c .before .before .before .before .before .enum-told3 .given .1)) ∙ c .before .before .before .before .before .before .before .running .ensures (l .current) (l .holding .nodes-held .running)) in
-    (e, omega (arith, running-node (a .t .now) (l .current) (c .before .before .before .before .before .before .before .before .before .wide .result) n, read-spans (a .t .now) e .nodes-read), full-room (a .t .now) e (record { froms-full = omega (arith, u .kept); kepts-full = omega (arith, u .kept); runs-full = omega (arith, u .kept); tokens-full = omega (arith, u .kept) }), l)
+    (e, omega (arith, running-node (a .t .now) (l .current) (c .before .before .before .before .before .before .before .before .before .wide .result) n, read-spans (a .t .now) e .nodes-read), full-room (a .t .now) e (record { froms-full = u .kept .1 .1 .1 .0; kepts-full = u .kept .1 .1 .1 .1 .0; runs-full = u .kept .1 .1 .1 .1 .1 .0; tokens-full = u .kept .1 .1 .1 .1 .1 .1 .0 }), l)
 
 same-length : tie.Need-same-length
 same-length c = c .before .before .before .before .before .conclude .kept .1 .1 .1 .1 .1 .1 .1 .1 .1 .0

@@ -35,10 +35,10 @@ enum-told : tie.Need-enum-told Inv-loop μ-loop
 enum-told c = search needs
 
 same-length : tie.Need-same-length Inv-loop μ-loop
-same-length c = search needs
+same-length c = omega (arith, c .before .before .before .before .before .before .before .before .before .pre)
 
 same-length-2 : tie.Need-same-length-2 Inv-loop μ-loop
-same-length-2 c = search needs
+same-length-2 c = omega (arith, c .before .before .before .before .loop .inv, c .before .before .before .loop-test .taken)
 
 returns : tie.Need-returns Inv-loop μ-loop
 returns c = let a = c .before .before .before .before .before .before .before .before .before .args in
@@ -56,7 +56,7 @@ sub-values c = let a = c .before .before .before .before .before .before .before
     omega arith
 
 mul-place : tie.Need-mul-place Inv-loop μ-loop
-mul-place c = search needs
+mul-place c = omega arith
 
 sub-place : tie.Need-sub-place Inv-loop μ-loop
 sub-place c = search needs
@@ -68,7 +68,7 @@ slice-write-place : tie.Need-slice-write-place Inv-loop μ-loop
 slice-write-place c = search needs
 
 cast-more : tie.Need-cast-more Inv-loop μ-loop
-cast-more c = search needs
+cast-more c = omega arith
 
 slice-write-more : tie.Need-slice-write-more Inv-loop μ-loop
 slice-write-more c = search needs
@@ -77,7 +77,7 @@ add-i : tie.Need-add-i Inv-loop μ-loop
 add-i c = search needs
 
 loop-less : tie.Need-loop-less Inv-loop μ-loop
-loop-less c = search needs
+loop-less c = omega arith
 
 loop-again : tie.Need-loop-again Inv-loop μ-loop
 loop-again c = let a = c .before .before .before .before .before .before .before .before .before .before .args in
@@ -94,10 +94,10 @@ loop-again c = let a = c .before .before .before .before .before .before .before
     )
 
 same-length-3 : tie.Need-same-length-3 Inv-loop μ-loop
-same-length-3 c = search needs
+same-length-3 c = omega (arith, c .before .before .loop .inv, c .if1 .taken)
 
 same-length-4 : tie.Need-same-length-4 Inv-loop μ-loop
-same-length-4 c = search needs
+same-length-4 c = omega (arith, c .if1 .taken, c .before .before .loop .inv, c .before .before .before .before .before .before .before .pre)
 
 returns-2 : tie.Need-returns-2 Inv-loop μ-loop
 returns-2 c = let a = c .before .before .before .before .before .before .before .args in
@@ -109,7 +109,7 @@ same-length-5 : tie.Need-same-length-5 Inv-loop μ-loop
 same-length-5 c = search needs
 
 same-length-6 : tie.Need-same-length-6 Inv-loop μ-loop
-same-length-6 c = search needs
+same-length-6 c = omega (arith, c .before .before .loop .inv, c .if1 .left)
 
 returns-3 : tie.Need-returns-3 Inv-loop μ-loop
 returns-3 c = let a = c .before .before .before .before .before .before .before .args in
