@@ -124,7 +124,7 @@ seat-requires c κs = let a = c .before .before .before .before .before .before 
     let g = a .g .now in
     let f = need-passed 7 (guardsFine t g) (sym (ap said (c .before .before .before .before .before .before .before .enum-told3 .given .1)) ∙ c .before .before .before .before .before .before .before .before .before .read .ensures) in
     let k = c .before .before .before .before .before .before .before .before .before .before .before .before .before .before .before .before .before .before .before .before .take-up .kept in
-    ((h .0, guards-long t g f, omega (arith, h .1 .froms, k), omega (arith, h .1 .kepts, k), omega (arith, h .1 .tokens-there, k)), h .2)
+    ((h .0, guards-long t g f, omega (arith, h .1 .froms, k .1 .1 .1 .0), omega (arith, h .1 .kepts, k .1 .1 .1 .1 .0), omega (arith, h .1 .tokens-there, k .1 .1 .1 .1 .1 .1 .0)), h .2)
 
 same-length-13 : tie.Need-same-length-13
 same-length-13 c = c .before .before .before .before .before .before .before .before .before .before .before .before .before .before .before .before .before .before .before .before .before .before .before .before .before .before .before .before .before .take-up .kept .1 .1 .1 .0
