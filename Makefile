@@ -1,9 +1,9 @@
-# make: prove every crate, build the library for Rust and C, and print the sheet of the small event.  make test: the gate.
+# make: prove every crate, make the archives for Rust and C, and print the sheet of the small event.  make test: the gate.
 .PHONY: all sheet test bench definitions
 
 all:
-	rt check
-	rt staticlib keshmirun
+	@tools/progress target/log/rt check
+	@tools/archive
 	@tools/run sheet <crates/sheet/stdin
 
 # the sheet of any other input: make sheet <FILE
@@ -11,12 +11,12 @@ sheet:
 	@tools/run sheet
 
 test:
-	tools/gate
+	@tools/gate
 
-# the six operations timed beside the plain reading; on Arm both run in the emulator, so only the ratios say something there
+# the six operations timed beside the plain reading, on this machine's own processor
 bench:
-	rt staticlib keshmirun
-	tools/cargo run --release --example bench
+	@tools/archive
+	@tools/cargo run --release --example bench
 
 # tries the definitions on outside calls, by computation; run it before a definition moves
 definitions:

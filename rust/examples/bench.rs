@@ -134,7 +134,7 @@ fn row(operation: &str, event: &str, engine: impl Fn(&mut [u8]) -> Result<usize,
     };
     let read = plain();
     assert!(read.is_none() || read.as_ref() == Some(&answer), "{operation} of {event}: {answer:?} and {read:?}");
-    let fast = median(|| engine(&mut out).map_or_else(|refusal| usize::from(refusal.number), |length| length));
+    let fast = median(|| engine(&mut out).unwrap_or_else(|refusal| usize::from(refusal.number)));
     let slow = median(|| usize::from(plain() == read));
     let bound = if read.is_none() { ">" } else { "" };
     let deep = stack::taken(|| {

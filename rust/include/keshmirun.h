@@ -1,4 +1,5 @@
-/* The six operations of the Keshmirun engine, for C. Link with libkeshmirun.a.
+/* The six operations of the Keshmirun engine, for C. Link with libkeshmirun.a of the processor that you build for: target/archive has a folder for
+ * each, x86_64-unknown-linux-gnu and aarch64-unknown-linux-gnu. All names begin with `keshmirun_`, so that none clashes with a name of yours.
  *
  * A slice is a pointer and a length. An operation reads its inputs, writes its reply to the front of `out`, and keeps nothing; a refused call
  * changes no byte. Inputs and `out` must not overlap. Formats and numbers are those of the paper "Token flow, tables and markings". */
@@ -26,26 +27,26 @@ extern "C" {
 #define KESHMIRUN_MOST_ENDS 20
 
 /* Checks a diagram table. Refusals 1 to 4. */
-uint64_t check(const uint8_t *table, size_t table_len);
+uint64_t keshmirun_check(const uint8_t *table, size_t table_len);
 
 /* Writes the marking with which an activity begins; `values`: per incoming parameter a count and 4-byte values. Refusals 1 to 4, 15 to 17. */
-uint64_t start(const uint8_t *table, size_t table_len, const uint8_t *values, size_t values_len, uint8_t *out, size_t out_len);
+uint64_t keshmirun_start(const uint8_t *table, size_t table_len, const uint8_t *values, size_t values_len, uint8_t *out, size_t out_len);
 
 /* Writes the sheet of offered ends; `guards`: per edge 1 or 0. Refusals 1 to 8, 17. */
-uint64_t sheet(const uint8_t *table, size_t table_len, const uint8_t *marking, size_t marking_len, const uint8_t *guards, size_t guards_len,
-               uint8_t *out, size_t out_len);
+uint64_t keshmirun_sheet(const uint8_t *table, size_t table_len, const uint8_t *marking, size_t marking_len, const uint8_t *guards, size_t guards_len,
+                         uint8_t *out, size_t out_len);
 
 /* Writes the first acceptable choice of ends; with a node named, the first that has an end of it. Refusals 1 to 8, 13, 17. */
-uint64_t pick(const uint8_t *table, size_t table_len, const uint8_t *marking, size_t marking_len, const uint8_t *guards, size_t guards_len,
-              uint8_t node, uint8_t *out, size_t out_len);
+uint64_t keshmirun_pick(const uint8_t *table, size_t table_len, const uint8_t *marking, size_t marking_len, const uint8_t *guards, size_t guards_len,
+                        uint8_t node, uint8_t *out, size_t out_len);
 
 /* Writes the marking after a choice of ends is taken; `choice`: rising numbers of the sheet's ends. Refusals 1 to 12, 17. */
-uint64_t step(const uint8_t *table, size_t table_len, const uint8_t *marking, size_t marking_len, const uint8_t *guards, size_t guards_len,
-              const uint8_t *choice, size_t choice_len, uint8_t *out, size_t out_len);
+uint64_t keshmirun_step(const uint8_t *table, size_t table_len, const uint8_t *marking, size_t marking_len, const uint8_t *guards, size_t guards_len,
+                        const uint8_t *choice, size_t choice_len, uint8_t *out, size_t out_len);
 
 /* Writes the marking after an action ends; `values`: per output pin a count and 4-byte values. Refusals 1 to 6, 14 to 17. */
-uint64_t finish(const uint8_t *table, size_t table_len, const uint8_t *marking, size_t marking_len, uint8_t action, const uint8_t *values,
-                size_t values_len, uint8_t *out, size_t out_len);
+uint64_t keshmirun_finish(const uint8_t *table, size_t table_len, const uint8_t *marking, size_t marking_len, uint8_t action, const uint8_t *values,
+                          size_t values_len, uint8_t *out, size_t out_len);
 
 #ifdef __cplusplus
 }

@@ -7,13 +7,17 @@ mod refusal;
 
 pub use refusal::Refusal;
 
-/// The archive's operations. A slice is a pointer and a length; nothing checks these declarations against the archive but the tests.
+/// The archive's operations, under names that no other library has. A slice is a pointer and a length; nothing checks these declarations against the
+/// archive but the tests.
 mod archive {
     extern "C" {
+        #[link_name = "keshmirun_check"]
         pub fn check(table: *const u8, table_len: usize) -> u64;
 
+        #[link_name = "keshmirun_start"]
         pub fn start(table: *const u8, table_len: usize, values: *const u8, values_len: usize, out: *mut u8, out_len: usize) -> u64;
 
+        #[link_name = "keshmirun_sheet"]
         pub fn sheet(
             table: *const u8,
             table_len: usize,
@@ -25,6 +29,7 @@ mod archive {
             out_len: usize,
         ) -> u64;
 
+        #[link_name = "keshmirun_pick"]
         pub fn pick(
             table: *const u8,
             table_len: usize,
@@ -37,6 +42,7 @@ mod archive {
             out_len: usize,
         ) -> u64;
 
+        #[link_name = "keshmirun_step"]
         pub fn step(
             table: *const u8,
             table_len: usize,
@@ -50,6 +56,7 @@ mod archive {
             out_len: usize,
         ) -> u64;
 
+        #[link_name = "keshmirun_finish"]
         pub fn finish(
             table: *const u8,
             table_len: usize,

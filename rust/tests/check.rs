@@ -1,8 +1,5 @@
 //! `check` against the plain reading of the paper, on good, bad and damaged tables with fixed seeds.
 
-mod common;
-
-use common::share;
 use keshmirun::Refusal;
 use reading::random::{damaged, table, Parts, Rng};
 use reading::Answer;
@@ -32,7 +29,7 @@ fn expected(table: &[u8]) -> Result<(), Refusal> {
 fn compare(seed: u64, calls: usize, mut next: impl FnMut(&mut Rng) -> Vec<u8>) -> [usize; 5] {
     let mut rng = Rng::new(seed);
     let mut seen = [0; 5];
-    for k in 0..share(calls) {
+    for k in 0..calls {
         let table = next(&mut rng);
         let answer = watched(&table, k as u8);
         assert_eq!(answer, expected(&table), "call {k} of seed {seed}: {table:02x?}");
@@ -53,7 +50,7 @@ fn good_tables() {
         parts.shuffle(rng); // the same diagram, numbered anew
         parts.write()
     });
-    assert!(seen[0] > share(30_000), "{seen:?}");
+    assert!(seen[0] > 30_000, "{seen:?}");
 }
 
 #[test]
@@ -67,11 +64,11 @@ fn damaged_tables() {
         turn += 1;
         damaged(rng, &good)
     });
-    assert!(seen.iter().all(|&count| count > share(1_000)), "{seen:?}");
+    assert!(seen.iter().all(|&count| count > 1_000), "{seen:?}");
 }
 
 #[test]
 fn any_bytes() {
     let seen = compare(3, 20_000, |rng| (0..rng.below(600)).map(|_| rng.below(256) as u8).collect());
-    assert_eq!(seen[1], share(20_000), "{seen:?}");
+    assert_eq!(seen[1], 20_000, "{seen:?}");
 }

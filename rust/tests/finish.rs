@@ -4,7 +4,7 @@
 mod common;
 
 use common::points::Walk;
-use common::{called, room, share, within, Seen};
+use common::{called, room, within, Seen};
 use reading::random::{damaged, damaged_bytes, outputs, Event, Rng};
 
 /// Most often an action that runs; at times any number.
@@ -19,7 +19,7 @@ fn action(rng: &mut Rng, event: &Event) -> u8 {
 fn seen(seed: u64, points: usize, mut next: impl FnMut(&mut Rng) -> Event) -> Seen {
     let mut rng = Rng::new(seed);
     let mut seen = Seen::default();
-    for _ in 0..share(points) {
+    for _ in 0..points {
         let event = next(&mut rng);
         for _ in 0..4 {
             compare(&mut rng, &mut seen, &event);

@@ -9,7 +9,7 @@ mod common;
 
 use common::points::{varied, Walk, BUDGET};
 use common::second::Second;
-use common::{called, limits, room, share, within, Seen};
+use common::{called, limits, room, within, Seen};
 use reading::random::{Event, Parts, Rng};
 use reading::{Answer, Board, NO_NODE};
 
@@ -29,7 +29,7 @@ struct Tally {
 fn tally(seed: u64, calls: usize, mut next: impl FnMut(&mut Rng) -> Event) -> Tally {
     let mut rng = Rng::new(seed);
     let mut tally = Tally::default();
-    while tally.seen.calls() < share(calls) {
+    while tally.seen.calls() < calls {
         let event = next(&mut rng);
         let event = varied(&mut rng, &event);
         tally.compare(&mut rng, &event);
@@ -138,12 +138,12 @@ fn whole_events() {
 fn from_anywhere() {
     let tally = tally(42, 30_000, Event::anywhere);
     tally.seen.assert_each(50, &[0, 1, 2, 3, 4, 5, 6, 7, 8, 13, 17]);
-    assert!(tally.large >= share(50), "{tally:?}");
+    assert!(tally.large >= 50, "{tally:?}");
 }
 
 #[test]
 fn near_the_sizes() {
     let tally = tally(43, 10_000, limits::event);
     tally.seen.assert_each(200, &[0, 8, 13, 17]);
-    assert!(tally.large >= share(300), "{tally:?}");
+    assert!(tally.large >= 300, "{tally:?}");
 }

@@ -4,7 +4,7 @@
 mod common;
 
 use common::points::{varied, Walk, BUDGET};
-use common::{called, limits, room, share, within, Seen};
+use common::{called, limits, room, within, Seen};
 use keshmirun::Refusal;
 use reading::random::{Event, Parts, Rng};
 
@@ -12,7 +12,7 @@ use reading::random::{Event, Parts, Rng};
 fn seen(seed: u64, calls: usize, mut next: impl FnMut(&mut Rng) -> Event) -> Seen {
     let mut rng = Rng::new(seed);
     let mut seen = Seen::default();
-    while seen.calls() < share(calls) {
+    while seen.calls() < calls {
         let event = next(&mut rng);
         for _ in 0..4 {
             let event = varied(&mut rng, &event);

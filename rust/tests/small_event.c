@@ -27,14 +27,14 @@ static int refused(uint64_t answer, unsigned number, unsigned place) {
 #define HOLDS(test) if (!(test)) return __LINE__
 
 int main(void) {
-    HOLDS(check(table, sizeof table) == 0);
-    HOLDS(refused(check(table, sizeof table - 1), 1, 0));
-    HOLDS(wrote(start(table, sizeof table, values, sizeof values, out, sizeof out), started, sizeof started));
-    HOLDS(wrote(sheet(EVENT(started), guards, sizeof guards, out, sizeof out), ends, sizeof ends));
-    HOLDS(wrote(pick(EVENT(started), guards, sizeof guards, 5, out, KESHMIRUN_MOST_ENDS), second_end, sizeof second_end));
-    HOLDS(refused(pick(EVENT(started), guards, sizeof guards, 2, out, KESHMIRUN_MOST_ENDS), 13, 2));
-    HOLDS(wrote(pick(EVENT(started), guards, sizeof guards, KESHMIRUN_NO_NODE, out, KESHMIRUN_MOST_ENDS), (const uint8_t[]){0}, 1));
-    HOLDS(wrote(step(EVENT(started), guards, sizeof guards, second_end, sizeof second_end, out, sizeof out), stepped, sizeof stepped));
-    HOLDS(wrote(finish(EVENT(stepped), 5, values, 0, out, sizeof out), finished, sizeof finished));
+    HOLDS(keshmirun_check(table, sizeof table) == 0);
+    HOLDS(refused(keshmirun_check(table, sizeof table - 1), 1, 0));
+    HOLDS(wrote(keshmirun_start(table, sizeof table, values, sizeof values, out, sizeof out), started, sizeof started));
+    HOLDS(wrote(keshmirun_sheet(EVENT(started), guards, sizeof guards, out, sizeof out), ends, sizeof ends));
+    HOLDS(wrote(keshmirun_pick(EVENT(started), guards, sizeof guards, 5, out, KESHMIRUN_MOST_ENDS), second_end, sizeof second_end));
+    HOLDS(refused(keshmirun_pick(EVENT(started), guards, sizeof guards, 2, out, KESHMIRUN_MOST_ENDS), 13, 2));
+    HOLDS(wrote(keshmirun_pick(EVENT(started), guards, sizeof guards, KESHMIRUN_NO_NODE, out, KESHMIRUN_MOST_ENDS), (const uint8_t[]){0}, 1));
+    HOLDS(wrote(keshmirun_step(EVENT(started), guards, sizeof guards, second_end, sizeof second_end, out, sizeof out), stepped, sizeof stepped));
+    HOLDS(wrote(keshmirun_finish(EVENT(stepped), 5, values, 0, out, sizeof out), finished, sizeof finished));
     return 0;
 }

@@ -3,14 +3,14 @@
 
 mod common;
 
-use common::{called, room, share, within, Seen};
+use common::{called, room, within, Seen};
 use reading::random::{damaged, table, values, Rng};
 
 /// Calls on so many random tables, four on each, with one table in `times` damaged.
 fn seen(seed: u64, tables: usize, times: usize) -> Seen {
     let mut rng = Rng::new(seed);
     let mut seen = Seen::default();
-    for _ in 0..share(tables) {
+    for _ in 0..tables {
         let good = table(&mut rng);
         for _ in 0..4 {
             let lists = values(&mut rng, &good);

@@ -4,7 +4,7 @@
 mod common;
 
 use common::points::{varied, Walk, BUDGET};
-use common::{called, limits, room, share, within, Seen};
+use common::{called, limits, room, within, Seen};
 use reading::random::{choice, Event, Rng};
 use reading::{Answer, Board, NO_NODE};
 
@@ -15,7 +15,7 @@ const PICK_BUDGET: u64 = 500;
 fn seen(seed: u64, calls: usize, mut next: impl FnMut(&mut Rng) -> Event) -> Seen {
     let mut rng = Rng::new(seed);
     let mut seen = Seen::default();
-    while seen.calls() < share(calls) {
+    while seen.calls() < calls {
         let event = next(&mut rng);
         let event = varied(&mut rng, &event);
         compare(&mut rng, &mut seen, &event);

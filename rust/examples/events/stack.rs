@@ -1,6 +1,6 @@
 //! How much stack a call takes: what lies below is painted before the call, and what of it is then no longer paint was reached.
 
-const DEPTH: usize = 512 * 1024;
+const DEPTH: usize = 128 * 1024;
 /// Left unpainted, for the frames of the painter itself.
 const MARGIN: usize = 512;
 const PAINT: u8 = 0xa5;

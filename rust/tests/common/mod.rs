@@ -5,6 +5,7 @@
 pub mod limits;
 pub mod points;
 pub mod second;
+pub mod vectors;
 
 use keshmirun::Refusal;
 use reading::random::Rng;
@@ -42,13 +43,6 @@ impl Lent {
         expected[MARGIN..MARGIN + reply.len()].copy_from_slice(reply);
         assert_eq!(self.bytes, expected, "a byte that is not the reply's");
     }
-}
-
-/// How many of so many random calls are made, or are to answer in some way: all, but where the engine's processor is emulated, many times slower,
-/// the part that `tools/cargo` asks for.
-pub fn share(calls: usize) -> usize {
-    let parts = std::env::var("KESHMIRUN_SHARE").map_or(1, |parts| parts.parse().unwrap());
-    calls.div_ceil(parts)
 }
 
 /// A room to lend for this reply: plenty, as it is, one byte short, or any small one.
@@ -118,16 +112,14 @@ impl Seen {
         self.counts.iter().sum()
     }
 
-    /// Every one of these answers came at least so often (of all calls), and a call in a thousand was left out at most.
+    /// Every one of these answers came at least so often, and a call in a thousand was left out at most.
     pub fn assert_each(&self, least: usize, numbers: &[usize]) {
-        let least = share(least);
         assert!(numbers.iter().all(|&number| self.counts[number] >= least), "{self:?}");
         assert!(self.skipped * 1_000 <= self.calls(), "{self:?}");
     }
 
-    /// Every one of these refusals came at so many places (of all calls).
+    /// Every one of these refusals came at so many places.
     pub fn assert_places(&self, least: usize, numbers: &[usize]) {
-        let least = share(least);
         assert!(numbers.iter().all(|&number| self.places[number].len() >= least), "{self:?}");
     }
 }
