@@ -5,6 +5,7 @@ use mathlib.Core.Bool.{Bool, true, false}
 use Rattle.paper.proofs.Search.{look}
 use Rattle.pruning.specs.declared.Bounds.{Bounds}
 use Rattle.net.specs.declared.Place.{Place}
+use Rattle.net.specs.declared.Spot.{Spot}
 use Rattle.scouting.specs.declared.Visit.{Visit}
 use Rattle.scouting.specs.Scouting.{said, seen}
 use Rattle.pruning.specs.Net.{passes, Net}
@@ -32,6 +33,12 @@ pub record Placed (m left : ℕ) (p : Place) : Type 0 where
 -- the next end, and `end` is taken
 abbrev pub stepped : Place → ℕ → Place
 stepped p end = record { bit = p .bit * 2; taken = p .taken + end }
+
+-- further on, where fewer ends are open, the same is found, and all that pass there lie between the bounds too
+abbrev pub Skipped : (ℕ → Bool) → ℕ → ℕ → Place → Bounds → Spot → Type 0
+Skipped passing m left p b s =
+    Confined passing m (m - left) (p .taken) b
+    → (look passing left (m - left) (p .taken) ≡ look passing (s .left) (m - s .left) (s .place .taken)) × Confined passing m (m - s .left) (s .place .taken) b
 
 -- the search from a place finds what `look`, the search through all sets, does, if all that pass lie between the bounds; and it visits a state at
 -- least, and for each part of the open ends no more than a survey does

@@ -2,15 +2,20 @@
 // the net and the ends that are wanted. What makes it fast is pruning, and scouting. Assumes nothing.
 use pruning::Bounds;
 use pruning::Wanted;
+use scouting::Hint;
 use scouting::Visit;
 ghost use mathlib.Core.Path.{_≡_};
-ghost use mathlib.Core.Bool.{cond};
-ghost use Prim.Native.Nat.{_+_, _^_, _≤_, _<_};
+ghost use mathlib.Core.Bool.{Bool, true, false, cond};
+ghost use mathlib.Core.Option.{none, some};
+ghost use Prim.Native.Nat.{ℕ, _+_, _%_, _^_, _≤_, _<_};
+ghost use lib.ListN.{length};
+ghost use Rattle.paper.specs.Lists.{has};
 ghost use Rattle.paper.proofs.Search.{look};
-ghost use Rattle.pruning.specs.Net.{netOf};
-ghost use Rattle.pruning.specs.Bounds.{good};
+ghost use Rattle.pruning.specs.Net.{meets, netOf};
+ghost use Rattle.pruning.specs.Bounds.{good, Between};
+ghost use Rattle.twins.specs.Twins.{Lacking};
 ghost use Rattle.scouting.specs.Scouting.{said, seen};
-ghost use Rattle.net.specs.Searching.{Answers, Placed, stepped, Visited};
+ghost use Rattle.net.specs.Searching.{Answers, Placed, Skipped, stepped, Visited};
 
 // The first set that passes, or that none does.
 pub enum Found {
@@ -35,78 +40,170 @@ fn step(p: Place, end: u32) -> Place
     }
 }
 
-// No end is open: the ends taken are the only set left.
-fn leaf(passes: bool, taken: u32, states: usize) -> Visit
-    ensures { λ r. ⌜ r ≡ cond passes (Visit.Choice taken states) (Visit.Nothing states) ⌝ }
+// Where the search goes on, and how many ends are open there.
+struct Spot {
+    left: usize,
+    place: Place,
+}
+
+// Whether an end may be had or left.
+fn is_open(end: u32, b: Bounds) -> bool
+    ensures { λ r. ⌜ (r ≡ false → meets 32 (b .may) end ≡ true → meets 32 (b .must) end ≡ true) ⌝ }
+{
+    if !pruning::meets(b.may, end) {
+        return false;
+    }
+    !pruning::meets(b.must, end)
+}
+
+// One end less is open: taken, if it may be had.
+fn decide(p: Place, b: Bounds) -> Place
+    requires { ⌜ (p .bit ≤ 524288) × (p .taken < p .bit) ⌝ }
+    ensures { λ r. ⌜ r ≡ stepped p (cond (meets 32 (b .may) (p .bit)) (p .bit) 0) ⌝ }
+{
+    if pruning::meets(b.may, p.bit) {
+        return step(p, p.bit);
+    }
+    step(p, 0)
+}
+
+// The first end that is open between the bounds: those before it are taken if they must be, and left if they may not be had.
+fn skip(m: usize, left: usize, p: Place, b: Bounds) -> Spot
+    requires { ⌜ (m ≤ 20) × Placed m left p ⌝ }
+    ensures { λ r. ⌜ (r .left ≤ left) × Placed m (r .left) (r .place) × ((passing : ℕ → Bool) → Skipped passing m left p b r) ⌝ }
+{
+    let mut rest = left;
+    let mut place = p;
+    while 0 < rest {
+        if is_open(place.bit, b) {
+            return Spot {
+                left: rest,
+                place: place,
+            };
+        }
+        place = decide(place, b);
+        rest -= 1;
+    }
+    Spot {
+        left: rest,
+        place: place,
+    }
+}
+
+// A set found, or nothing.
+fn answer(passes: bool, c: u32, states: usize) -> Visit
+    ensures { λ r. ⌜ (said r ≡ cond passes (some c) none) × (seen r ≡ states) ⌝ }
 {
     if passes {
-        return Visit::Choice(taken, states);
+        return Visit::Choice(c, states);
     }
-    Visit::Nothing(states)
+    Visit::Nothing(0, states)
+}
+
+// Whether all ends that may be had pass together, and begin with those taken: then no other set comes before them.
+fn is_first(net: &[u32], want: Wanted, m: usize, p: Place, b: Bounds) -> bool
+    requires { ⌜ (20 ≤ length (now net)) × (m ≤ 20) × (1 ≤ p .bit) ⌝ }
+    ensures { λ r. ⌜ (r ≡ true → (b .may < 2 ^ m) × (b .may % p .bit ≡ p .taken) × (good (now (net .entry)) want (b .may) ≡ true)) ⌝ }
+{
+    if b.may % p.bit != p.taken {
+        return false;
+    }
+    if words::end_of(m) <= b.may {
+        return false;
+    }
+    pruning::passes(net, want, b.may)
+}
+
+// Ends that are gone with end k, with which nothing was found by a survey: it, and those that can change places with it.
+fn gone(net: &[u32], want: Wanted, k: usize, end: u32, v: Visit, b: Bounds) -> u32
+    requires { ⌜ 20 ≤ length (now net) ⌝ }
+    ensures { λ r. ⌜ (end ≡ 2 ^ k → (said v ≡ none → Lacking (good (now (net .entry)) want) b k) → (x : ℕ) → good (now (net .entry)) want x ≡ true → Between b x → has x k ≡ false → meets 32 x r ≡ false) ⌝ }
+{
+    match v {
+        Visit::Choice(_, _) => end,
+        Visit::Nothing(_, _) => end | twins::twins(net, want, k, b),
+    }
 }
 
 // The first set that passes among those that have `p.taken` before the open ends, if those that pass lie between the bounds.
-fn search(net: &[u32], want: Wanted, m: usize, left: usize, p: Place, b: Bounds, hint: u32) -> Visit
-    requires { ⌜ (m ≤ 20) × Placed m left p ⌝ }
+fn search(net: &[u32], want: Wanted, m: usize, left: usize, p: Place, b: Bounds, h: Hint) -> Visit
+    requires { ⌜ (20 ≤ length (now net)) × (m ≤ 20) × Placed m left p ⌝ }
     ensures { λ r. ⌜ Visited (good (now (net .entry)) want) m left p b r ⌝ }
 {
-    let view = scouting::survey(net, want, m, p.bit, hint, b);
-    let low = view.low;
-    if pruning::is_dead(net, want, low) {
-        return Visit::Nothing(view.states);
+    if pruning::is_dead(b) {
+        return Visit::Nothing(0, 1);
     }
-    if left == 0 {
-        let fine = pruning::passes(net, want, p.taken);
-        return leaf(fine, p.taken, view.states);
+    let s = skip(m, left, p, b);
+    let q = s.place;
+    if s.left == 0 {
+        return answer(pruning::passes(net, want, q.taken), q.taken, 1);
     }
-    let fewer = left - 1;
-    let mut tried = view.states;
-    if pruning::meets(low.may, p.bit) {
-        let with = pruning::add(p.bit, low);
-        let f = search(net, want, m, fewer, step(p, p.bit), with, view.hint);
+    let fewer = s.left - 1;
+    let with = pruning::settle(net, want, pruning::add(q.bit, b));
+    let taking = step(q, q.bit);
+    if is_first(net, want, m, taking, with) {
+        return Visit::Choice(with.may, 1);
+    }
+    let view = scouting::survey(net, want, m, h, with);
+    let told = scouting::hint_of(view, h);
+    let mut tried = scouting::states_of(view);
+    if let Visit::Choice(_, _) = view {
+        let f = search(net, want, m, fewer, taking, with, told);
         if let Visit::Choice(c, more) = f {
             return Visit::Choice(c, more + tried);
         }
         tried = scouting::states_of(f) + tried;
-        if pruning::meets(low.must, p.bit) {
-            return Visit::Nothing(tried);
-        }
     }
-    let out = pruning::strike(p.bit, low);
-    let v = search(net, want, m, fewer, step(p, 0), out, view.hint);
+    let lost = gone(net, want, m - s.left, q.bit, view, b);
+    let out = pruning::settle(net, want, pruning::strike(lost, b));
+    let leaving = step(q, 0);
+    if is_first(net, want, m, leaving, out) {
+        return Visit::Choice(out.may, tried + 1);
+    }
+    let v = search(net, want, m, fewer, leaving, out, told);
     scouting::after(tried, v)
 }
 
 // The search over all sets of m ends.
 fn search_all(net: &[u32], want: Wanted, m: usize) -> Visit
-    requires { ⌜ m ≤ 20 ⌝ }
+    requires { ⌜ (20 ≤ length (now net)) × (m ≤ 20) ⌝ }
     ensures { λ r. ⌜ (said r ≡ look (good (now (net .entry)) want) m 0 0) × ((1 ≤ seen r) × (seen r < 2 ^ (m + 22))) ⌝ }
 {
     let p = Place { bit: 1, taken: 0 };
-    let b = Bounds {
+    let all = Bounds {
         must: 0,
         may: words::end_of(m) - 1,
     };
-    match scouting::scout(net, want, m, m, b) {
-        Visit::Choice(c, more) => scouting::after(more, search(net, want, m, m, p, b, c)),
-        Visit::Nothing(more) => Visit::Nothing(more),
+    let b = pruning::settle(net, want, all);
+    if is_first(net, want, m, p, b) {
+        return Visit::Choice(b.may, 1);
     }
+    let h = Hint {
+        ends: 4294967295,
+        blame: 0,
+    };
+    let view = scouting::scout(net, want, m, h, b);
+    if let Visit::Nothing(_, more) = view {
+        return Visit::Nothing(0, more);
+    }
+    let v = search(net, want, m, m, p, b, scouting::hint_of(view, h));
+    scouting::after(scouting::states_of(view), v)
 }
 
 // The first set of m ends that passes the net and holds what is wanted.
 pub fn first(net: &[u32], want: Wanted, m: usize) -> Found
-    requires { ⌜ m ≤ 20 ⌝ }
+    requires { ⌜ (20 ≤ length (now net)) × (m ≤ 20) ⌝ }
     ensures { λ r. ⌜ Answers (netOf (now (net .entry)) want) m r ⌝ }
 {
     match search_all(net, want, m) {
         Visit::Choice(c, _) => Found::Choice(c),
-        Visit::Nothing(_) => Found::Nothing,
+        Visit::Nothing(_, _) => Found::Nothing,
     }
 }
 
 // How many states that search visits: what a test can hold down.
 pub fn states(net: &[u32], want: Wanted, m: usize) -> usize
-    requires { ⌜ m ≤ 20 ⌝ }
+    requires { ⌜ (20 ≤ length (now net)) × (m ≤ 20) ⌝ }
     ensures { λ r. ⌜ (1 ≤ r) × (r < 2 ^ (m + 22)) ⌝ }
 {
     scouting::states_of(search_all(net, want, m))

@@ -1,10 +1,11 @@
 -- What pick answers of what the search found on a board, and what the search is lent of a board that was read. Assumes nothing.
-use mathlib.Core.Path.{_≡_, refl}
-use mathlib.Core.Bool.{true, false}
+use mathlib.Core.Path.{_≡_, refl, sym, subst, _∙_}
+use mathlib.Core.Bool.{Bool, true, false, _&&_}
 use mathlib.Core.List.{List}
-use Prim.Native.Nat.{ℕ, _^_, _≤_, _<_}
+use Prim.Native.Nat.{ℕ, _+_, _*_, _^_, _≤_, _<_}
 use native.Mathlib.Omega.{arith}
-use lib.ListN.{length}
+use lib.Dec.{leb}
+use lib.ListN.{length, take}
 use Rattle.paper.specs.Lists.{at}
 use Rattle.paper.specs.Answers.{Answer, refused, good}
 use Rattle.paper.specs.Table.{edges, upper}
@@ -22,13 +23,34 @@ use Rattle.net.specs.declared.Found.{Found}
 use Rattle.net.specs.declared.Found.the-variants.{Choice, Nothing}
 use Rattle.rows.specs.Rows.{Rows}
 use Rattle.seating.specs.Seating.{Rowed, Seated}
-use Rattle.rules.specs.Rules.{Lent, Answered}
+use Rattle.rules.specs.Rules.{Lent, holds}
+use Rattle.rules.proofs.Rows.{passes-holds}
+use Rattle.pruning.specs.declared.Wanted.{Wanted}
+use Rattle.pruning.specs.Net.{passes, netOf, held}
+use Rattle.pruning.proofs.Rules.{first-same}
+use Rattle.net.specs.Searching.{Answers}
 use Rattle.choosing.specs.Choice.{numbers}
 use Rattle.choosing.proofs.Laws.{taken-numbers}
 use Rattle.holding.specs.declared.Held.{Held}
 use Rattle.holding.specs.TakenUp.{HeldFull}
 use Rattle.holding.proofs.TakenUp.{full-room}
-use Rattle.picking.specs.Picking.{Pickable}
+use Rattle.picking.specs.Picking.{Pickable, Answered}
+
+-- ---- what the search answers, of tests that agree
+pub answers-holds : (net : List ℕ) (k : ℕ) → 20 + 4 * k ≤ length net → (want : Wanted) (n : ℕ) (f : Found) → Answers (netOf (take (20 + 4 * k) net) want) n f
+    → Answered (λ c. holds net k n c && leb (want .least) (held n c (want .ends))) n f
+unfolding Answers Answered
+answers-holds net k room want n (Choice c) a =
+    first-same (passes n (netOf (take (20 + 4 * k) net) want)) (λ c. holds net k n c && leb (want .least) (held n c (want .ends))) n (λ x g. passes-holds net k room want n x) c a
+answers-holds net k room want n Nothing a = λ x g. sym (passes-holds net k room want n x) ∙ a x g
+
+answered-same : (p q : ℕ → Bool) (m : ℕ) → ((c : ℕ) → p c ≡ q c) → (f : Found) → Answered p m f → Answered q m f
+unfolding Answered
+answered-same p q m h (Choice c) a = first-same p q m (λ x g. h x) c a
+answered-same p q m h Nothing a = λ x g. sym (h x) ∙ a x g
+
+pub found-on : (d : Board) (i n : ℕ) → n ≡ howMany d → (p : ℕ → Bool) → ((c : ℕ) → p c ≡ wanted d i c) → (f : Found) → Answered p n f → Answered (wanted d i) (howMany d) f
+found-on d i n e p h f a = subst (λ (x : ℕ). Answered (wanted d i) x f) e (answered-same p (wanted d i) n h f a)
 
 -- ---- on a board
 module _ (d : Board) (i : ℕ) (e : acceptable d 0 ≡ true) where

@@ -17,8 +17,8 @@ ghost use Rattle.seating.specs.Seating.{Seated, allowed};
 ghost use Rattle.seating.proofs.Rules.{Told};
 ghost use Rattle.holding.specs.TakenUp.{HeldFull};
 ghost use Rattle.pruning.specs.Net.{held as heldOf};
-ghost use Rattle.rules.specs.Rules.{Lent, Roomy, holds, Answered};
-ghost use Rattle.picking.specs.Picking.{Pickable};
+ghost use Rattle.rules.specs.Rules.{Lent, Roomy, holds};
+ghost use Rattle.picking.specs.Picking.{Pickable, Answered};
 use holding::Held;
 use net::Found;
 use pruning::Wanted;
@@ -44,8 +44,8 @@ fn filled(
     n: usize,
     held: Held,
 ) -> usize
-    requires { ⌜ Full offers × HeldFull held × (784 ≤ length (now net)) × Lent (now t) table (offers .node) (offers .parents) (offers .makers) (offers .foes) (now ends) (now edge) (now target) (now home) (held .runs) (held .kept) (offers .count) n ⌝ }
-    ensures { λ r. ⌜ (r ≤ 196) × (Roomy (now (t .entry)) (held .kept) → (c : ℕ) → holds (now (net .exit)) r n c ≡ allowed (now (t .entry)) (offers .node) (offers .parents) (offers .makers) (offers .foes) (now (ends .entry)) (now (edge .entry)) (now (target .entry)) (now (home .entry)) (held .runs) (held .kept) (offers .count) n c) ⌝ }
+    requires { ⌜ Full offers × HeldFull held × (440 ≤ length (now net)) × Lent (now t) table (offers .node) (offers .parents) (offers .makers) (offers .foes) (now ends) (now edge) (now target) (now home) (held .runs) (held .kept) (offers .count) n ⌝ }
+    ensures { λ r. ⌜ (r ≤ 105) × (Roomy (now (t .entry)) (held .kept) → (c : ℕ) → holds (now (net .exit)) r n c ≡ allowed (now (t .entry)) (offers .node) (offers .parents) (offers .makers) (offers .foes) (now (ends .entry)) (now (edge .entry)) (now (target .entry)) (now (home .entry)) (held .runs) (held .kept) (offers .count) n c) ⌝ }
 {
     let node = offers.node;
     let parents = offers.parents;
@@ -83,8 +83,8 @@ fn prepare(
     node: u8,
     net: &mut [u32],
 ) -> Question
-    requires { ⌜ (tableRead (now t) ≡ good table) × Pickable (now t) offers (now ends) n × HeldFull held × (784 ≤ length (now net)) ⌝ }
-    ensures { λ r. ⌜ (r .rules ≤ 196) × ((links : List ℕ) (d : Board) (ts : List Offer) → Seated (now (t .entry)) d (rowsOf offers links) ts (now (ends .entry)) n → Told (now (t .entry)) (d .current) (held .runs) (held .kept) → ((i : ℕ) → length (d .current .stock i) ≤ upper (now (t .entry)) i) → (c : ℕ) → holds (now (net .exit)) (r .rules) n c && leb (r .want .least) (heldOf n c (r .want .ends)) ≡ wanted d node c) ⌝ }
+    requires { ⌜ (tableRead (now t) ≡ good table) × Pickable (now t) offers (now ends) n × HeldFull held × (440 ≤ length (now net)) ⌝ }
+    ensures { λ r. ⌜ (r .rules ≤ 105) × ((links : List ℕ) (d : Board) (ts : List Offer) → Seated (now (t .entry)) d (rowsOf offers links) ts (now (ends .entry)) n → Told (now (t .entry)) (d .current) (held .runs) (held .kept) → ((i : ℕ) → length (d .current .stock i) ≤ upper (now (t .entry)) i) → (c : ℕ) → holds (now (net .exit)) (r .rules) n c && leb (r .want .least) (heldOf n c (r .want .ends)) ≡ wanted d node c) ⌝ }
 {
     let last = offers.last;
     let mut edge = [0u8; rows::MOST_ENDS];
@@ -96,6 +96,14 @@ fn prepare(
         rules: rules,
         want: wanting::wanted(&target, &home, n, node),
     }
+}
+
+// The first set of n ends that obeys the rules of a net and holds what is wanted.
+fn first(net: &[u32], asked: Question, n: usize) -> Found
+    requires { ⌜ (n ≤ 20) × (asked .rules ≤ 105) × (440 ≤ length (now net)) ⌝ }
+    ensures { λ r. ⌜ Answered (λ c. holds (now (net .entry)) (asked .rules) n c && leb (asked .want .least) (heldOf n c (asked .want .ends))) n r ⌝ }
+{
+    net::first(&net[0..rules::RIVALS + 4 * asked.rules], asked.want, n)
 }
 
 // The first acceptable choice that has an end of the node, if one is named.
@@ -113,7 +121,7 @@ fn choose(
 {
     let mut net = [0u32; rules::CELLS];
     let asked = prepare(t, table, offers, ends, n, held, node, &mut net);
-    rules::first(&net, asked.rules, asked.want, n)
+    first(&net, asked, n)
 }
 
 // How many states the search for that choice visits: what a test can hold down.
@@ -131,7 +139,7 @@ pub fn states(
 {
     let mut net = [0u32; rules::CELLS];
     let asked = prepare(t, table, offers, ends, n, held, node, &mut net);
-    rules::states(&net, asked.rules, asked.want, n)
+    net::states(&net[0..rules::RIVALS + 4 * asked.rules], asked.want, n)
 }
 
 // What pick answers of n ends, where `found` is what was looked for: row 13, or a choice.

@@ -3,17 +3,17 @@ use mathlib.Core.Path.{_≡_, refl, sym, ap, _∙_}
 use mathlib.Core.Logic.{⊎-elim}
 use mathlib.Core.Bool.{Bool, true, false, not, _&&_, _||_}
 use Prim.Native.Nat.{ℕ, zero, suc, _+_, _-_, _*_, _/_, _%_, _^_, _≤_, _<_, min, max}
-use native.Mathlib.Nat.{mod-lt, mod-eq-of-lt, mod-self, zero-lt-suc, le-refl, div-eq-of-lt, lt-of-le-of-lt, zero-add}
+use native.Mathlib.Nat.{pow-suc, pow-succ', div-one, div-div-eq-div-mul, mod-lt, mod-eq-of-lt, mod-self, zero-lt-suc, le-refl, div-eq-of-lt, lt-of-le-of-lt, zero-add}
 use native.Mathlib.Omega.{arith}
 use native.Mathlib.Decide.{decLt}
 use lib.Dec.{eqb, leb}
 use lib.Pow.{pow-lt, pow-pos}
-use lib.Bits.{bitAnd, bitOr, bitXor, differ, and-shr, and-step, or-shr, or-step, xor-shr, xor-step, and-le-l, and-mask}
-use lib.Count.{ones, ones-cat, ones-step}
-use borrow.Author.Tests.{eq-eqb, eqb-true, eqb-false, le-leb, lt-leb}
+use lib.Bits.{bitAnd, bitOr, bitXor, differ, and-shr, and-step, or-shr, or-step, xor-shr, xor-step, and-le-l, and-le-r, and-mask}
+use lib.Count.{ones, ones-cat, ones-step, trailingZeros, under}
+use borrow.Author.Tests.{eq-eqb, eqb-true, eqb-false, leb-false, le-leb, lt-leb}
 use Rattle.paper.specs.Lists.{has, below, count, any, oneIf}
-use Rattle.paper.proofs.Bools.{never, and-true, and-both, true-or-false, false-if}
-use Rattle.paper.proofs.Counts.{count-below, count-most}
+use Rattle.paper.proofs.Bools.{never, and-true, and-both, or-left, or-right, true-or-false, false-if}
+use Rattle.paper.proofs.Counts.{count-below, count-most, any-below-none}
 use Rattle.paper.proofs.Members.{any-count, any-in, in-any, below-in, in-below}
 use Rattle.paper.proofs.Digits.{has-mod, has-zero, digit-in, digit-out, in-digit}
 use Rattle.paper.proofs.Bits.{has-high}
@@ -126,6 +126,47 @@ module _ (p q : ℕ → Bool) where
       last false true e g l = absurd (omega arith)
       last false false e g l = never false e refl
 
+-- ---- counts of tests that cover others, that exclude each other, or that one number passes
+count-cover : (p q r : ℕ → Bool) (n : ℕ) → ((k : ℕ) → p k ≡ true → q k || r k ≡ true) → count p (below n) ≤ count q (below n) + count r (below n)
+count-cover p q r zero h = omega arith
+count-cover p q r (suc n) h =
+    rw (count-below p n, count-below q n, count-below r n) (by (p n) (q n) (r n) (h n) (count-cover p q r n h))
+  where
+    by : (a b c : Bool) → (a ≡ true → b || c ≡ true) → count p (below n) ≤ count q (below n) + count r (below n)
+        → count p (below n) + oneIf a ≤ (count q (below n) + oneIf b) + (count r (below n) + oneIf c)
+    by true true c f l = omega arith
+    by true false true f l = omega arith
+    by true false false f l = never false (f refl) refl
+    by false b c f l = omega arith
+
+-- tests that no number passes both
+pub count-apart : (p q r : ℕ → Bool) (n : ℕ) → ((k : ℕ) → k < n → q k ≡ true → (p k ≡ true) × (r k ≡ false)) → ((k : ℕ) → k < n → r k ≡ true → p k ≡ true)
+    → count q (below n) + count r (below n) ≤ count p (below n)
+count-apart p q r zero h i = omega arith
+count-apart p q r (suc n) h i =
+    rw (count-below p n, count-below q n, count-below r n)
+    (by (p n) (q n) (r n) (h n (omega arith)) (i n (omega arith)) (count-apart p q r n (λ k l. h k (omega arith)) (λ k l. i k (omega arith))))
+  where
+    by : (a b c : Bool) → (b ≡ true → (a ≡ true) × (c ≡ false)) → (c ≡ true → a ≡ true) → count q (below n) + count r (below n) ≤ count p (below n)
+        → (count q (below n) + oneIf b) + (count r (below n) + oneIf c) ≤ count p (below n) + oneIf a
+    by true true true f g l = never true refl (f refl .1)
+    by true true false f g l = omega arith
+    by true false true f g l = omega arith
+    by true false false f g l = omega arith
+    by false true c f g l = never false (f refl .0) refl
+    by false false true f g l = never false (g refl) refl
+    by false false false f g l = omega arith
+
+-- a test that one number at most passes
+count-one : (p : ℕ → Bool) (k : ℕ) → ((j : ℕ) → p j ≡ true → j ≡ k) → (n : ℕ) → (count p (below n) ≤ 1) × (n ≤ k → count p (below n) ≡ 0)
+count-one p k h zero = (omega arith, λ l. refl)
+count-one p k h (suc n) = rw (count-below p n) (by (p n) (h n) (count-one p k h n .0) (count-one p k h n .1))
+  where
+    by : (a : Bool) → (a ≡ true → n ≡ k) → count p (below n) ≤ 1 → (n ≤ k → count p (below n) ≡ 0)
+        → (count p (below n) + oneIf a ≤ 1) × (suc n ≤ k → count p (below n) + oneIf a ≡ 0)
+    by true f l z = let e = f refl in (omega (arith, z (omega arith)), λ i. absurd (omega arith))
+    by false f l z = (omega arith, λ i. omega (arith, z (omega arith)))
+
 -- ---- what two sets have in common
 module _ (n c d : ℕ) where
   pub meets-held : meets n c d ≡ leb 1 (held n c d)
@@ -237,3 +278,106 @@ apart-power n x k h =
 pub meets-one : (n x k : ℕ) → k < n → meets n x (2 ^ k) ≡ has x k
 meets-one n x k l =
     ⊎-elim (λ h. meets-at n x (2 ^ k) k l h (has-power k) ∙ sym h) (λ h. apart-power n x k h ∙ sym h) (true-or-false (has x k))
+
+-- ---- a set beside words of 32 digits
+module _ (x : ℕ) where
+  pub meets-zero : meets 32 x 0 ≡ false
+  unfolding meets
+  meets-zero = any-below-none (inBoth x 0) 32 (λ k l. rw (has-zero k) (by (has x k)))
+    where
+      by : (a : Bool) → a && false ≡ false
+      by true = refl
+      by false = refl
+
+  pub held-none : (d : ℕ) → meets 32 x d ≡ false → held 32 x d ≡ 0
+  held-none d h = omega (arith, leb-false 1 (held 32 x d) (sym (meets-held 32 x d) ∙ h))
+
+  pub none-held : (d : ℕ) → held 32 x d ≤ 0 → meets 32 x d ≡ false
+  none-held d h = meets-held 32 x d ∙ ap (leb 1) (let z : held 32 x d ≡ 0 = omega arith in z)
+
+  pub cover : (c a b : ℕ) → ((k : ℕ) → has c k ≡ true → has a k || has b k ≡ true) → held 32 x c ≤ held 32 x a + held 32 x b
+  unfolding held
+  cover c a b h = count-cover (inBoth x c) (inBoth x a) (inBoth x b) 32 (λ k e.
+      let q = and-true (has x k) (has c k) e in
+      by (has x k) (has a k) (has b k) (q .0) (h k (q .1)))
+    where
+      by : (u v w : Bool) → u ≡ true → v || w ≡ true → u && v || u && w ≡ true
+      by true v w e f = f
+      by false v w e f = never false e refl
+
+  pub held-power : (k : ℕ) → held 32 x (2 ^ k) ≤ 1
+  unfolding held
+  held-power k = count-one (inBoth x (2 ^ k)) k (λ j e. has-power-other k j (and-true (has x j) (has (2 ^ k) j) e .1)) 32 .0
+
+  pub meets-or : (a b : ℕ) → meets 32 x a ≡ false → meets 32 x b ≡ false → meets 32 x (bitOr a b) ≡ false
+  meets-or a b p q =
+      none-held (bitOr a b) (omega (arith, cover (bitOr a b) a b (λ k e. sym (has-or a b k) ∙ e), held-none a p, held-none b q))
+
+module _ (x a b : ℕ) (apart : meets 32 a b ≡ false) where
+  pub held-both : held 32 x a + held 32 x b ≤ held 32 x (bitOr a b)
+  unfolding held
+  held-both =
+      count-apart (inBoth x (bitOr a b)) (inBoth x a) (inBoth x b) 32
+      (λ k l e.
+      let q = and-true (has x k) (has a k) e in
+      (and-both (has x k) (has (bitOr a b) k) (q .0) (has-or a b k ∙ or-left (has a k) (has b k) (q .1)), rw (meets-none 32 a b apart k l (q .1)) (by (has x k))))
+      (λ k l e.
+      let q = and-true (has x k) (has b k) e in
+      and-both (has x k) (has (bitOr a b) k) (q .0) (has-or a b k ∙ or-right (has a k) (has b k) (q .1)))
+    where
+      by : (c : Bool) → c && false ≡ false
+      by true = refl
+      by false = refl
+
+-- the first end of a set
+half-pos : (q : ℕ) → 0 < q → q % 2 ≡ 0 → 0 < q / 2
+half-pos q h e = omega arith
+
+first-digit : (d q : ℕ) → 1 ≤ q → q < 2 ^ d → q / 2 ^ trailingZeros d q % 2 ≡ 1
+unfolding trailingZeros
+first-digit zero q h k = absurd (omega arith)
+first-digit (suc d) q h k =
+    by (q % 2) refl (λ (e : q % 2 ≡ 0). first-digit d (q / 2) (half-pos q h e) (let z = rw (pow-suc 2 d) at k in omega arith))
+  where
+    by : (r : ℕ) → q % 2 ≡ r → (q % 2 ≡ 0 → q / 2 / 2 ^ trailingZeros d (q / 2) % 2 ≡ 1) → q / 2 ^ under r (trailingZeros d (q / 2)) % 2 ≡ 1
+    by zero e ih =
+        let t = trailingZeros d (q / 2) in
+        ap (λ (x : ℕ). x % 2) (ap (λ (x : ℕ). q / x) (pow-succ' 2 t) ∙ sym (div-div-eq-div-mul q 2 (2 ^ t))) ∙ ih e
+    by (suc r) e ih = ap (λ (x : ℕ). x % 2) (div-one q) ∙ (omega arith)
+
+pub first-has : (d q : ℕ) → 1 ≤ q → q < 2 ^ d → has q (trailingZeros d q) ≡ true
+first-has d q h k = ap (λ (x : ℕ). eqb x 1) (first-digit d q h k)
+
+pub first-inside : (d q : ℕ) → 1 ≤ q → q < 2 ^ d → trailingZeros d q < d
+first-inside d q h k =
+    elim (decLt (trailingZeros d q) d) [
+      | yes l ↦ l
+      | no l ↦ never (has q (trailingZeros d q)) (first-has d q h k) (has-high q d (trailingZeros d q) k (omega arith))
+    ]
+
+-- a part that lacks an end is a smaller number
+pub less-part : (n c r k : ℕ) → r < 2 ^ n → ((j : ℕ) → j < n → has r j ≡ true → has c j ≡ true) → has c k ≡ true → has r k ≡ false → r < c
+less-part n c r k l part i o =
+    let most : r ≤ c = rw (sym (digits-same n r c l part)) (and-le-r r c) in
+    elim (decLt r c) [
+      | yes h ↦ h
+      | no h ↦ let z : c ≡ r = omega arith in never (has c k) i (ap (λ (x : ℕ). has x k) z ∙ o)
+    ]
+
+-- what is left of a set without one of its ends
+pub less-left : (c k r : ℕ) → r < 2 ^ 32 → has c k ≡ true → Without c (2 ^ k) r → r < c
+less-left c k r m h w =
+    less-part 32 c r k m (λ j i e. and-true (has c j) (not (has (2 ^ k) j)) (sym (w j) ∙ e) .0) h
+    (w k ∙ rw (h, has-power k))
+
+-- a set that is one end
+pub one-held : (c k : ℕ) → c ≡ 2 ^ k → held 32 c c ≤ 1
+one-held c k e = rw (ap (held 32 c) e) (held-power c k)
+
+pub none-at-all : (c : ℕ) → c ≡ 0 → held 32 c c ≤ 1
+none-at-all c e = omega (arith, ap (held 32 c) e, held-none c 0 (meets-zero c))
+
+-- what two sets have in common is as much as the set of it has
+pub held-itself : (c d : ℕ) → held 32 c d ≤ held 32 (bitAnd c d) (bitAnd c d)
+unfolding held
+held-itself c d = count-part (inBoth c d) (inBoth (bitAnd c d) (bitAnd c d)) 32 (λ k l e. let h = has-and c d k ∙ e in and-both (has (bitAnd c d) k) (has (bitAnd c d) k) h h)

@@ -4,15 +4,26 @@ use Prim.Native.Nat.{ℕ, _≤_, _<_}
 use mathlib.Core.Path.{_≡_}
 use mathlib.Core.Bool.{Bool, true, false, not, _&&_}
 use mathlib.Core.List.{List}
-use Rattle.paper.specs.Lists.{at, has}
+use lib.Dec.{leb}
+use Rattle.paper.specs.Lists.{at, has, below, all}
 use Rattle.pruning.specs.declared.Wanted.{Wanted}
+use Rattle.pruning.specs.declared.Rule.{Rule}
 use Rattle.pruning.specs.declared.Bounds.{Bounds}
-use Rattle.pruning.specs.declared.Group.{Group}
-use Rattle.pruning.specs.Net.{held, meets, passes, netOf}
+use Rattle.pruning.specs.Net.{held, meets, obeys, passes, rivalsAt, netOf}
 
 -- a word passes the net
 abbrev pub good : List ℕ → Wanted → ℕ → Bool
 good net want = passes 32 (netOf net want)
+
+-- a word has no two ends that are rivals; it has what is wanted; it has that and obeys a rule
+unfoldable pub apart : List ℕ → ℕ → Bool
+apart net x = all (λ k. obeys 32 (rivalsAt net k) x) (below 20)
+
+abbrev pub enough : Wanted → ℕ → Bool
+enough want x = leb (want .least) (held 32 x (want .ends))
+
+abbrev pub heeds : Wanted → Rule → ℕ → Bool
+heeds want r x = enough want x && obeys 32 r x
 
 -- each end in a is in b
 abbrev pub Part : ℕ → ℕ → Type 0
@@ -34,23 +45,6 @@ Keeps passing b r = (x : ℕ) → passing x ≡ true → Between b x → Between
 abbrev pub NoneIn : (ℕ → Bool) → Bounds → Type 0
 NoneIn passing b = (x : ℕ) → passing x ≡ true → Between b x → ⊥
 
--- a set that passes and has end k has none of r
-abbrev pub Shuns : (ℕ → Bool) → ℕ → ℕ → Type 0
-Shuns passing k r = (x : ℕ) → passing x ≡ true → has x k ≡ true → meets 32 x r ≡ false
-
--- the list has such ends for each of the m ends
-abbrev pub Foes : (ℕ → Bool) → ℕ → List ℕ → Type 0
-Foes passing m foes = (k : ℕ) → k < m → Shuns passing k (at foes k)
-
--- a set that passes has so many of these ends at most
-abbrev pub Most : (ℕ → Bool) → ℕ → ℕ → Type 0
-Most passing ends r = (x : ℕ) → passing x ≡ true → held 32 x ends ≤ r
-
--- a set that passes has one of the group at most, and none if it has one of the ends in common
-pub record Huddled (passing : ℕ → Bool) (h : Group) : Type 0 where
-  pub lone : Most passing (h .ends) 1
-  pub apart : (k : ℕ) → k < 32 → has (h .common) k ≡ true → Shuns passing k (h .ends)
-
--- a set that passes and meets `when` has so many of these ends at least
-abbrev pub Asks : (ℕ → Bool) → ℕ → ℕ → ℕ → Type 0
-Asks passing when only lo = (x : ℕ) → passing x ≡ true → meets 32 x when ≡ true → lo ≤ held 32 x only
+-- every set between the bounds that has what is wanted meets these ends
+abbrev pub SetOff : Wanted → ℕ → Bounds → Type 0
+SetOff want when b = (x : ℕ) → enough want x ≡ true → Between b x → meets 32 x when ≡ true

@@ -1,8 +1,8 @@
 -- Rules over sets of ends, nets of rules, and the sets that pass them. A set of m ends is a number below 2 ^ m; end k is in it if its digit k is 1.
 -- Assumes nothing.
-use Prim.Native.Nat.{ℕ, _+_, _*_, _/_, _^_}
+use Prim.Native.Nat.{ℕ, _+_, _-_, _*_, _/_, _^_}
 use mathlib.Core.Bool.{Bool, _&&_}
-use mathlib.Core.List.{List}
+use mathlib.Core.List.{List, _++_}
 use lib.Dec.{leb}
 use lib.ListN.{length}
 use Rattle.paper.specs.Lists.{has, below, all, any, count, each, at, within, _⇒_}
@@ -50,12 +50,19 @@ floor whens those lo = rule whens those lo 32
 abbrev pub cap : ℕ → ℕ → Rule
 cap them hi = rule them them 0 hi
 
--- ---- a net as the code is lent it: each rule in four cells side by side
+-- ---- a net as the code is lent it: the rivals of each of 20 ends, then each rule in four cells side by side
 abbrev pub size : List ℕ → ℕ
-size net = length net / 4
+size net = (length net - 20) / 4
+
+abbrev pub rivalsAt : List ℕ → ℕ → Rule
+rivalsAt net k = clash k (at net k)
 
 abbrev pub ruleAt : List ℕ → ℕ → Rule
-ruleAt net i = rule (at net (4 * i)) (at net (4 * i + 1)) (at net (4 * i + 2)) (at net (4 * i + 3))
+ruleAt net i = rule (at net (20 + 4 * i)) (at net (20 + 4 * i + 1)) (at net (20 + 4 * i + 2)) (at net (20 + 4 * i + 3))
 
 unfoldable pub netOf : List ℕ → Wanted → Net
-netOf net want = record { rules = each (ruleAt net) (below (size net)); wanted = want .ends; least = want .least }
+netOf net want = record {
+  rules = each (rivalsAt net) (below 20) ++ each (ruleAt net) (below (size net));
+  wanted = want .ends;
+  least = want .least;
+}

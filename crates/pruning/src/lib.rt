@@ -1,13 +1,13 @@
-// Bounds on the sets of ends that pass a net of rules: drawn together rule by rule, by counting rivals and by trying an end, and never so that a set that
-// passes is lost. Assumes nothing. A net is a lent slice, each rule in four cells side by side.
+// Bounds on the sets of ends that pass a net of rules: drawn together rule by rule and by rivals, and never so that a set that passes is lost.
+// A net is a lent slice: the rivals of each of 20 ends, then each rule in four cells side by side. Assumes no more than its `requires`.
 ghost use mathlib.Core.Path.{_≡_};
-ghost use mathlib.Core.Bool.{Bool, true, not};
+ghost use mathlib.Core.Bool.{true, not, _&&_};
 ghost use Prim.Native.Nat.{ℕ, _+_, _-_, _^_, _≤_, _<_};
-ghost use lib.Dec.{leb};
+ghost use lib.Dec.{leb, ltb};
 ghost use lib.ListN.{length};
-ghost use Rattle.paper.specs.Lists.{has};
+ghost use Rattle.paper.specs.Lists.{at, has, within};
 ghost use Rattle.pruning.specs.Net.{held, meets, obeys, size, ruleAt};
-ghost use Rattle.pruning.specs.Bounds.{good, Without, Keeps, NoneIn, Shuns, Foes, Huddled, Most, Asks};
+ghost use Rattle.pruning.specs.Bounds.{good, apart, enough, heeds, Without, Between, Keeps, NoneIn, SetOff};
 
 // At least so many of these ends are wanted; `least` is 0 where none is named.
 pub struct Wanted {
@@ -29,11 +29,11 @@ pub struct Bounds {
     pub may: u32,
 }
 
-// A group of rivals, and the ends that are rivals of all of them.
-struct Group {
-    ends: u32,
-    common: u32,
-}
+// So many cells of a net are the rivals of ends, one each.
+pub const ENDS: usize = 20;
+
+// A rule with as many as this for hi binds nothing from above: a set has no more ends.
+pub const ALL: u32 = 32;
 
 // ---- sets as words
 
@@ -58,76 +58,52 @@ pub fn without(c: u32, d: u32) -> u32
     c ^ (c & d)
 }
 
-// ---- one rule
-
-// How many rules a net has.
-pub fn size(net: &[u32]) -> usize
-    ensures { λ r. ⌜ r ≡ size (now (net .entry)) ⌝ }
+// The first end of a set that has one.
+pub fn first_of(c: u32) -> usize
+    requires { ⌜ 1 ≤ c ⌝ }
+    ensures { λ r. ⌜ (r < 32) × (has c r ≡ true) ⌝ }
 {
-    net.len() / 4
+    u32::trailing_zeros(c) as usize
 }
 
-// Rule i of a net.
-pub fn rule_at(net: &[u32], i: usize) -> Rule
-    requires { ⌜ i < size (now net) ⌝ }
-    ensures { λ r. ⌜ r ≡ ruleAt (now (net .entry)) i ⌝ }
+// Whether so many ends are in both sets. One is asked for most, and needs no count.
+pub fn has_least(c: u32, d: u32, lo: u32) -> bool
+    ensures { λ r. ⌜ r ≡ leb lo (held 32 c d) ⌝ }
 {
-    let j = 4 * i;
-    Rule {
-        when: net[j],
-        only: net[j + 1],
-        lo: net[j + 2],
-        hi: net[j + 3],
-    }
-}
-
-fn obeys(rule: Rule, c: u32) -> bool
-    ensures { λ r. ⌜ r ≡ obeys 32 rule c ⌝ }
-{
-    if !meets(c, rule.when) {
+    if lo == 0 {
         return true;
     }
-    let k = held(c, rule.only);
-    rule.lo <= k && k <= rule.hi
+    if lo == 1 {
+        return meets(c, d);
+    }
+    lo <= held(c, d)
 }
 
-// No set between the bounds obeys the rule.
-fn fails(rule: Rule, b: Bounds) -> bool
-    ensures { λ r. ⌜ (r ≡ true → NoneIn (obeys 32 rule) b) ⌝ }
+// Whether a set is one end alone.
+fn is_one(c: u32) -> bool
+    ensures { λ r. ⌜ (r ≡ true → held 32 c c ≤ 1) ⌝ }
 {
-    if !meets(b.must, rule.when) {
-        return false;
-    }
-    if held(b.may, rule.only) < rule.lo {
+    if c == 0 {
         return true;
     }
-    rule.hi < held(b.must, rule.only)
+    c == words::end_of(first_of(c))
 }
 
-// Of sets with at least so many of these ends: where there are no more, all of them are taken.
-fn raise(ends: u32, least: u32, b: Bounds) -> Bounds
-    ensures { λ r. ⌜ Keeps (λ x. leb least (held 32 x ends)) b r ⌝ }
-{
-    if held(b.may, ends) != least {
-        return b;
-    }
+// ---- bounds
+
+// Bounds with nothing between them.
+fn none() -> Bounds {
     Bounds {
-        must: b.must | (b.may & ends),
-        may: b.may,
+        must: 4294967295,
+        may: 0,
     }
 }
 
-// Of sets with at most so many of these ends: where so many are taken, no other is.
-fn fill(ends: u32, most: u32, b: Bounds) -> Bounds
-    ensures { λ r. ⌜ Keeps (λ x. leb (held 32 x ends) most) b r ⌝ }
+// Nothing lies between the bounds.
+pub fn is_dead(b: Bounds) -> bool
+    ensures { λ r. ⌜ (r ≡ true → (x : ℕ) → Between b x → ⊥) ⌝ }
 {
-    if held(b.must, ends) != most {
-        return b;
-    }
-    Bounds {
-        must: b.must,
-        may: b.must | without(b.may, ends),
-    }
+    b.must & b.may != b.must
 }
 
 // Of sets without these ends.
@@ -150,72 +126,218 @@ pub fn add(end: u32, b: Bounds) -> Bounds
     }
 }
 
-// What a rule leaves between the bounds.
-fn tighten_by(rule: Rule, b: Bounds) -> Bounds
+// ---- one rule
+
+// How many rules a net has.
+pub fn size(net: &[u32]) -> usize
+    requires { ⌜ 20 ≤ length (now net) ⌝ }
+    ensures { λ r. ⌜ r ≡ size (now (net .entry)) ⌝ }
+{
+    (net.len() - ENDS) / 4
+}
+
+// Rule i of a net.
+pub fn rule_at(net: &[u32], i: usize) -> Rule
+    requires { ⌜ i < size (now net) ⌝ }
+    ensures { λ r. ⌜ r ≡ ruleAt (now (net .entry)) i ⌝ }
+{
+    let j = ENDS + 4 * i;
+    Rule {
+        when: net[j],
+        only: net[j + 1],
+        lo: net[j + 2],
+        hi: net[j + 3],
+    }
+}
+
+fn obeys(rule: Rule, c: u32) -> bool
+    ensures { λ r. ⌜ r ≡ obeys 32 rule c ⌝ }
+{
+    if !meets(c, rule.when) {
+        return true;
+    }
+    if !has_least(c, rule.only, rule.lo) {
+        return false;
+    }
+    if ALL <= rule.hi {
+        return true;
+    }
+    held(c, rule.only) <= rule.hi
+}
+
+// Every set between the bounds that has what is wanted meets these ends: one that is taken is among them, or all that are wanted are.
+pub fn applies(want: Wanted, when: u32, b: Bounds) -> bool
+    ensures { λ r. ⌜ (r ≡ true → SetOff want when b) ⌝ }
+{
+    if meets(b.must, when) {
+        return true;
+    }
+    if want.least == 0 {
+        return false;
+    }
+    want.ends & when == want.ends
+}
+
+// No set between the bounds has from lo to hi of the rule's ends.
+fn breaks(rule: Rule, b: Bounds) -> bool
+    ensures { λ r. ⌜ (r ≡ true → NoneIn (λ x. within (rule .lo) (rule .hi) (held 32 x (rule .only))) b) ⌝ }
+{
+    if !has_least(b.may, rule.only, rule.lo) {
+        return true;
+    }
+    if ALL <= rule.hi {
+        return false;
+    }
+    rule.hi < held(b.must, rule.only)
+}
+
+// Whether no more than so many of these ends may be had; it may say no where it is so.
+fn is_scarce(ends: u32, least: u32, b: Bounds) -> bool
+    ensures { λ r. ⌜ (r ≡ true → held 32 (b .may) ends ≤ least) ⌝ }
+{
+    if least == 0 {
+        return false;
+    }
+    if least == 1 {
+        return is_one(b.may & ends);
+    }
+    held(b.may, ends) <= least
+}
+
+// Of sets with at least so many of these ends: where there are no more, all of them are taken.
+fn raise(ends: u32, least: u32, b: Bounds) -> Bounds
+    ensures { λ r. ⌜ Keeps (λ x. leb least (held 32 x ends)) b r ⌝ }
+{
+    if !is_scarce(ends, least, b) {
+        return b;
+    }
+    Bounds {
+        must: b.must | (b.may & ends),
+        may: b.may,
+    }
+}
+
+// Whether as many of these ends are taken as may be, or more; it may say no where it is so.
+fn is_full(ends: u32, most: u32, b: Bounds) -> bool
+    ensures { λ r. ⌜ (r ≡ true → most ≤ held 32 (b .must) ends) ⌝ }
+{
+    if ALL <= most {
+        return false;
+    }
+    most <= held(b.must, ends)
+}
+
+// Of sets with at most so many of these ends: where so many are taken, no other is.
+fn fill(ends: u32, most: u32, b: Bounds) -> Bounds
+    ensures { λ r. ⌜ Keeps (λ x. leb (held 32 x ends) most) b r ⌝ }
+{
+    if !is_full(ends, most, b) {
+        return b;
+    }
+    strike(without(ends, b.must), b)
+}
+
+// What a rule leaves between the bounds that every set meets.
+fn hold(rule: Rule, b: Bounds) -> Bounds
+    ensures { λ r. ⌜ Keeps (λ x. within (rule .lo) (rule .hi) (held 32 x (rule .only))) b r ⌝ }
+{
+    if breaks(rule, b) {
+        return none();
+    }
+    raise(rule.only, rule.lo, fill(rule.only, rule.hi, b))
+}
+
+// What a rule leaves that some set may not meet: its ends go that would break it.
+fn shut(rule: Rule, b: Bounds) -> Bounds
     ensures { λ r. ⌜ Keeps (obeys 32 rule) b r ⌝ }
 {
-    if meets(b.must, rule.when) {
-        return raise(rule.only, rule.lo, fill(rule.only, rule.hi, b));
-    }
-    if held(b.may, rule.only) < rule.lo {
+    if breaks(rule, b) {
         return strike(rule.when, b);
     }
-    if rule.hi < held(b.must, rule.only) {
-        return strike(rule.when, b);
+    if !is_full(rule.only, rule.hi, b) {
+        return b;
     }
-    b
+    strike(without(rule.when & rule.only, b.must), b)
+}
+
+// What a rule leaves between the bounds.
+fn draw(want: Wanted, rule: Rule, b: Bounds) -> Bounds
+    ensures { λ r. ⌜ Keeps (heeds want rule) b r ⌝ }
+{
+    if applies(want, rule.when, b) {
+        return hold(rule, b);
+    }
+    if !meets(b.may, rule.when) {
+        return b;
+    }
+    shut(rule, b)
 }
 
 // ---- all rules
 
-// The set c passes the net and holds what is wanted.
-pub fn passes(net: &[u32], want: Wanted, c: u32) -> bool
-    ensures { λ r. ⌜ r ≡ good (now (net .entry)) want c ⌝ }
+// The rivals of end k go, if it is taken.
+fn shun_one(net: &[u32], k: usize, b: Bounds) -> Bounds
+    requires { ⌜ 20 ≤ length (now net) ⌝ }
+    ensures { λ r. ⌜ ((want : Wanted) → Keeps (good (now (net .entry)) want) b r) ⌝ }
 {
-    if held(c, want.ends) < want.least {
-        return false;
+    if ENDS <= k {
+        return b;
     }
-    let n = size(net);
-    let mut i: usize = 0;
-    while i < n {
-        if !obeys(rule_at(net, i), c) {
-            return false;
-        }
-        i += 1;
+    if !meets(b.must, words::end_of(k)) {
+        return b;
     }
-    true
+    strike(net[k], b)
 }
 
-// No set between the bounds passes, by some rule or by what is wanted alone.
-pub fn is_dead(net: &[u32], want: Wanted, b: Bounds) -> bool
-    ensures { λ r. ⌜ (r ≡ true → NoneIn (good (now (net .entry)) want) b) ⌝ }
+// The rivals of these ends go, as far as they are taken.
+fn shun(net: &[u32], ends: u32, b: Bounds) -> Bounds
+    requires { ⌜ 20 ≤ length (now net) ⌝ }
+    ensures { λ r. ⌜ ((want : Wanted) → Keeps (good (now (net .entry)) want) b r) ⌝ }
 {
-    if b.must & b.may != b.must {
-        return true;
+    let mut low = b;
+    let mut left = ends;
+    while left != 0 {
+        let k = first_of(left);
+        low = shun_one(net, k, low);
+        left = without(left, words::end_of(k));
     }
-    if held(b.may, want.ends) < want.least {
-        return true;
-    }
-    let n = size(net);
-    let mut i: usize = 0;
-    while i < n {
-        if fails(rule_at(net, i), b) {
-            return true;
-        }
-        i += 1;
-    }
-    false
+    low
 }
 
-// What is wanted, and every rule in turn.
+// Bounds that were drawn together, and what the rivals of newly taken ends leave of them.
+fn spread(net: &[u32], must: u32, b: Bounds) -> Bounds
+    requires { ⌜ 20 ≤ length (now net) ⌝ }
+    ensures { λ r. ⌜ ((want : Wanted) → Keeps (good (now (net .entry)) want) b r) ⌝ }
+{
+    if b.must == must {
+        return b;
+    }
+    shun(net, without(b.must, must), b)
+}
+
+// What is wanted of the sets between the bounds.
+fn ask(want: Wanted, b: Bounds) -> Bounds
+    ensures { λ r. ⌜ Keeps (enough want) b r ⌝ }
+{
+    if !has_least(b.may, want.ends, want.least) {
+        return none();
+    }
+    raise(want.ends, want.least, b)
+}
+
+// What is wanted, and every rule in turn, as long as something is left.
 fn tighten(net: &[u32], want: Wanted, b: Bounds) -> Bounds
+    requires { ⌜ 20 ≤ length (now net) ⌝ }
     ensures { λ r. ⌜ Keeps (good (now (net .entry)) want) b r ⌝ }
 {
-    let mut low = raise(want.ends, want.least, b);
+    let mut low = spread(net, b.must, ask(want, b));
     let n = size(net);
     let mut i: usize = 0;
     while i < n {
-        low = tighten_by(rule_at(net, i), low);
+        if is_dead(low) {
+            return low;
+        }
+        low = spread(net, low.must, draw(want, rule_at(net, i), low));
         i += 1;
     }
     low
@@ -229,10 +351,11 @@ fn slack(b: Bounds) -> u64
 }
 
 // Until nothing changes.
-fn settle(net: &[u32], want: Wanted, b: Bounds) -> Bounds
+pub fn settle(net: &[u32], want: Wanted, b: Bounds) -> Bounds
+    requires { ⌜ 20 ≤ length (now net) ⌝ }
     ensures { λ r. ⌜ Keeps (good (now (net .entry)) want) b r ⌝ }
 {
-    let mut low = tighten(net, want, b);
+    let mut low = tighten(net, want, shun(net, b.must, b));
     let mut before = slack(b);
     let mut after = slack(low);
     while after < before {
@@ -243,248 +366,51 @@ fn settle(net: &[u32], want: Wanted, b: Bounds) -> Bounds
     low
 }
 
-// ---- crowding
-
-// Ends that a rule forbids beside end k.
-fn forbidden(rule: Rule, k: usize) -> u32
-    requires { ⌜ k < 32 ⌝ }
-    ensures { λ r. ⌜ Shuns (obeys 32 rule) k r ⌝ }
+// Whether the set has a rival of end k.
+fn is_rivalled(net: &[u32], c: u32, k: usize) -> bool
+    requires { ⌜ 20 ≤ length (now net) ⌝ }
+    ensures { λ r. ⌜ r ≡ ltb k 20 && meets 32 c (at (now (net .entry)) k) ⌝ }
 {
-    if rule.hi != 0 {
-        return 0;
+    if ENDS <= k {
+        return false;
     }
-    if !meets(rule.when, words::end_of(k)) {
-        return 0;
-    }
-    rule.only
+    meets(c, net[k])
 }
 
-// Ends that no set that passes has beside end k.
-fn rivals(net: &[u32], k: usize) -> u32
-    requires { ⌜ k < 32 ⌝ }
-    ensures { λ r. ⌜ ((want : Wanted) → Shuns (good (now (net .entry)) want) k r) ⌝ }
+// Whether no two ends of the set are rivals.
+fn is_apart(net: &[u32], c: u32) -> bool
+    requires { ⌜ 20 ≤ length (now net) ⌝ }
+    ensures { λ r. ⌜ r ≡ apart (now (net .entry)) c ⌝ }
 {
-    let mut all: u32 = 0;
-    let n = size(net);
-    let mut i: usize = 0;
-    while i < n {
-        all = all | forbidden(rule_at(net, i), k);
-        i += 1;
-    }
-    all
-}
-
-// The rivals of each of the m ends.
-fn list_rivals(net: &[u32], m: usize, foes: &mut [u32])
-    requires { ⌜ (m ≤ 20) × (m ≤ length (now foes)) ⌝ }
-    ensures { λ r. ⌜ ((want : Wanted) → Foes (good (now (net .entry)) want) m (now (foes .exit))) ⌝ }
-{
-    let mut k: usize = 0;
-    while k < m {
-        foes[k] = rivals(net, k);
-        k += 1;
-    }
-}
-
-// End k joins a group, if it is a rival of all that are in it.
-fn admit(h: Group, foes: u32, k: usize) -> Group
-    requires { ⌜ k < 32 ⌝ }
-    ensures { λ r. ⌜ ((passing : ℕ → Bool) → Shuns passing k foes → Huddled passing h → Huddled passing r) ⌝ }
-{
-    let end = words::end_of(k);
-    if !meets(h.common, end) {
-        return h;
-    }
-    Group {
-        ends: h.ends | end,
-        common: h.common & foes,
-    }
-}
-
-// Some of these ends, the first among them, of which a set that passes has one at most.
-fn huddle(foes: &[u32], m: usize, ends: u32) -> u32
-    requires { ⌜ (m ≤ 20) × (m ≤ length (now foes)) ⌝ }
-    ensures { λ r. ⌜ ((passing : ℕ → Bool) → Foes passing m (now (foes .entry)) → Most passing r 1) ⌝ }
-{
-    let mut h = Group {
-        ends: 0,
-        common: ends,
-    };
-    let mut k: usize = 0;
-    while k < m {
-        h = admit(h, foes[k], k);
-        k += 1;
-    }
-    h.ends
-}
-
-// A number of these ends that no set that passes has more of: groups of rivals are taken away, until none is left.
-fn crowd(foes: &[u32], m: usize, ends: u32) -> u32
-    requires { ⌜ (m ≤ 20) × (m ≤ length (now foes)) ⌝ }
-    ensures { λ r. ⌜ ((passing : ℕ → Bool) → Foes passing m (now (foes .entry)) → Most passing ends r) ⌝ }
-{
-    let mut left = ends;
-    let mut most: u32 = 0;
-    let mut i: usize = 0;
-    while i < m {
-        if left == 0 {
-            return most;
+    let mut left = c;
+    while left != 0 {
+        let k = first_of(left);
+        if is_rivalled(net, c, k) {
+            return false;
         }
-        left = without(left, huddle(foes, m, left));
-        most += 1;
-        i += 1;
+        left = without(left, words::end_of(k));
     }
-    32
+    true
 }
 
-// A rule that asks for more of its ends than go together is not set off.
-fn thin_by(foes: &[u32], m: usize, when: u32, only: u32, lo: u32, b: Bounds) -> Bounds
-    requires { ⌜ (m ≤ 20) × (m ≤ length (now foes)) ⌝ }
-    ensures { λ r. ⌜ ((passing : ℕ → Bool) → Foes passing m (now (foes .entry)) → Asks passing when only lo → Keeps passing b r) ⌝ }
+// The set c passes the net and holds what is wanted.
+pub fn passes(net: &[u32], want: Wanted, c: u32) -> bool
+    requires { ⌜ 20 ≤ length (now net) ⌝ }
+    ensures { λ r. ⌜ r ≡ good (now (net .entry)) want c ⌝ }
 {
-    // one end goes together with itself
-    if lo <= 1 {
-        return b;
+    if !has_least(c, want.ends, want.least) {
+        return false;
     }
-    if lo <= crowd(foes, m, b.may & only) {
-        return b;
+    if !is_apart(net, c) {
+        return false;
     }
-    strike(when, b)
-}
-
-// What is asked for, and what a rule asks for besides: other ends, if it is set off by the same.
-fn plus(all: Wanted, w: u32, rule: Rule) -> Wanted
-    ensures { λ r. ⌜ ((passing : ℕ → Bool) → Asks passing (rule .when) (rule .only) (rule .lo) → Asks passing w (all .ends) (all .least) → Asks passing w (r .ends) (r .least)) ⌝ }
-{
-    if rule.when != w || rule.lo == 0 {
-        return all;
-    }
-    if meets(all.ends, rule.only) {
-        return all;
-    }
-    // no more than 20 ends are to be had
-    if rule.lo > 20 {
-        return all;
-    }
-    if all.least > 20 {
-        return all;
-    }
-    Wanted {
-        ends: all.ends | rule.only,
-        least: all.least + rule.lo,
-    }
-}
-
-// What the rules that are set off by these ends ask for together.
-fn demand(net: &[u32], w: u32) -> Wanted
-    ensures { λ r. ⌜ ((want : Wanted) → Asks (good (now (net .entry)) want) w (r .ends) (r .least)) ⌝ }
-{
-    let mut all = Wanted { ends: 0, least: 0 };
     let n = size(net);
     let mut i: usize = 0;
     while i < n {
-        all = plus(all, w, rule_at(net, i));
+        if !obeys(rule_at(net, i), c) {
+            return false;
+        }
         i += 1;
     }
-    all
-}
-
-// Rule i alone, and with all that are set off by the same ends.
-fn thin_at(net: &[u32], foes: &[u32], m: usize, i: usize, b: Bounds) -> Bounds
-    requires { ⌜ (m ≤ 20) × (m ≤ length (now foes)) × (i < size (now net)) ⌝ }
-    ensures { λ r. ⌜ ((want : Wanted) → Foes (good (now (net .entry)) want) m (now (foes .entry)) → Keeps (good (now (net .entry)) want) b r) ⌝ }
-{
-    let rule = rule_at(net, i);
-    if rule.lo == 0 {
-        return b;
-    }
-    let all = demand(net, rule.when);
-    let low = thin_by(foes, m, rule.when, all.ends, all.least, b);
-    thin_by(foes, m, rule.when, rule.only, rule.lo, low)
-}
-
-// Every rule in turn.
-fn thin(net: &[u32], want: Wanted, m: usize, b: Bounds) -> Bounds
-    requires { ⌜ m ≤ 20 ⌝ }
-    ensures { λ r. ⌜ Keeps (good (now (net .entry)) want) b r ⌝ }
-{
-    let mut foes = [0u32; 20];
-    list_rivals(net, m, &mut foes);
-    let mut low = b;
-    let n = size(net);
-    let mut i: usize = 0;
-    while i < n {
-        low = thin_at(net, &foes, m, i, low);
-        i += 1;
-    }
-    low
-}
-
-// All that the rules can see without trying an end.
-fn press(net: &[u32], want: Wanted, m: usize, b: Bounds) -> Bounds
-    requires { ⌜ m ≤ 20 ⌝ }
-    ensures { λ r. ⌜ Keeps (good (now (net .entry)) want) b r ⌝ }
-{
-    let low = settle(net, want, b);
-    thin(net, want, m, low)
-}
-
-// ---- trying an end
-
-// No set between the bounds passes, for all that the rules in turn can see.
-fn is_hopeless(net: &[u32], want: Wanted, b: Bounds) -> bool
-    ensures { λ r. ⌜ (r ≡ true → NoneIn (good (now (net .entry)) want) b) ⌝ }
-{
-    let low = settle(net, want, b);
-    is_dead(net, want, low)
-}
-
-// Strikes end k, if all is hopeless with it, and takes it, if all is hopeless without it.
-fn probe_end(net: &[u32], want: Wanted, k: usize, b: Bounds) -> Bounds
-    requires { ⌜ k < 32 ⌝ }
-    ensures { λ r. ⌜ Keeps (good (now (net .entry)) want) b r ⌝ }
-{
-    let end = words::end_of(k);
-    if !meets(without(b.may, b.must), end) {
-        return b;
-    }
-    if is_hopeless(net, want, add(end, b)) {
-        return strike(end, b);
-    }
-    if is_hopeless(net, want, strike(end, b)) {
-        return add(end, b);
-    }
-    b
-}
-
-// Each of the m ends in turn.
-fn probe(net: &[u32], want: Wanted, m: usize, b: Bounds) -> Bounds
-    requires { ⌜ m ≤ 20 ⌝ }
-    ensures { λ r. ⌜ Keeps (good (now (net .entry)) want) b r ⌝ }
-{
-    let mut low = b;
-    let mut k: usize = 0;
-    while k < m {
-        low = probe_end(net, want, k, low);
-        k += 1;
-    }
-    low
-}
-
-// The rules and the ends in turn, until nothing changes.
-pub fn narrow(net: &[u32], want: Wanted, m: usize, b: Bounds) -> Bounds
-    requires { ⌜ m ≤ 20 ⌝ }
-    ensures { λ r. ⌜ Keeps (good (now (net .entry)) want) b r ⌝ }
-{
-    let mut low = press(net, want, m, b);
-    let mut before = slack(low);
-    low = probe(net, want, m, low);
-    let mut after = slack(low);
-    while after < before {
-        low = press(net, want, m, low);
-        before = after;
-        low = probe(net, want, m, low);
-        after = slack(low);
-    }
-    low
+    true
 }

@@ -1,5 +1,5 @@
 -- What the search answers is what pick wants of a seated board: the seam between this crate's promises and the paper's. Assumes nothing.
-use mathlib.Core.Path.{_≡_, sym, ap₂, _∙_, subst}
+use mathlib.Core.Path.{_≡_, sym, ap₂, _∙_}
 use mathlib.Core.Bool.{Bool, not, _&&_, _||_}
 use mathlib.Core.List.{List}
 use Prim.Native.Nat.{ℕ, _≤_}
@@ -8,18 +8,16 @@ use lib.Dec.{leb}
 use lib.ListN.{length}
 use Rattle.paper.specs.Table.{kind, upper}
 use Rattle.paper.specs.Offers.{Offer}
-use Rattle.paper.specs.Choices.{Board, howMany}
+use Rattle.paper.specs.Choices.{Board}
 use Rattle.paper.specs.Operations.{named, wanted}
 use Rattle.rows.specs.Struct.{rowsOf}
 use Rattle.rows.specs.declared.Offers.{Offers}
 use Rattle.pruning.specs.Net.{held}
 use Rattle.pruning.specs.declared.Wanted.{Wanted}
-use Rattle.net.specs.declared.Found.{Found}
 use Rattle.seating.specs.Seating.{Seated, Columns, served, allowed}
 use Rattle.seating.proofs.Rules.{Told, held-kind}
 use Rattle.seating.proofs.Allowed.{wanted-rows}
-use Rattle.rules.specs.Rules.{holds, Roomy, Answered}
-use Rattle.rules.proofs.Rows.{answered-same}
+use Rattle.rules.specs.Rules.{holds, Roomy}
 
 module _ (t : List ℕ) (d : Board) (runs stock : List ℕ) (m : Told t (d .current) runs stock) where
   -- stocks of a good marking are within their uppers
@@ -34,7 +32,3 @@ module _ (t : List ℕ) (d : Board) (runs stock : List ℕ) (m : Told t (d .curr
         → ((c : ℕ) → leb (want .least) (held n c (want .ends)) ≡ not (named i) || served target home n c i)
         → (c : ℕ) → holds net count n c && leb (want .least) (held n c (want .ends)) ≡ wanted d i c
     sought net count i want h w c = ap₂ (λ (a b : Bool). a && b) (h c) (w c) ∙ sym (wanted-rows t d o links ts ends n c s edge target home k runs stock m i)
-
--- tests that agree have one answer
-pub found-on : (d : Board) (i n : ℕ) → n ≡ howMany d → (p : ℕ → Bool) → ((c : ℕ) → p c ≡ wanted d i c) → (f : Found) → Answered p n f → Answered (wanted d i) (howMany d) f
-found-on d i n e p h f a = subst (λ (x : ℕ). Answered (wanted d i) x f) e (answered-same p (wanted d i) n h f a)

@@ -1,30 +1,23 @@
--- What a scout promises, and what is known before an end is tried. Assumes nothing.
+-- What a scout promises. Assumes nothing.
 use Prim.Native.Nat.{ℕ, _+_, _^_, _≤_, _<_}
 use mathlib.Core.Path.{_≡_}
 use mathlib.Core.Bool.{Bool}
 use mathlib.Core.Option.{Option, none, some}
 use Rattle.pruning.specs.declared.Bounds.{Bounds}
-use Rattle.pruning.specs.Bounds.{Keeps, NoneIn}
-use Rattle.scouting.specs.declared.View.{View}
+use Rattle.pruning.specs.Bounds.{NoneIn}
 use Rattle.scouting.specs.declared.Visit.{Visit}
 use Rattle.scouting.specs.declared.Visit.the-variants.{Choice, Nothing}
 
 abbrev pub said : Visit → Option ℕ
 said (Choice c n) = some c
-said (Nothing n) = none
+said (Nothing c n) = none
 
 abbrev pub seen : Visit → ℕ
 seen (Choice c n) = n
-seen (Nothing n) = n
+seen (Nothing c n) = n
 
 -- a scout who finds nothing is right; trying `left` ends at most, it visits a state at least, and no more than all
 pub record Scouted (passing : ℕ → Bool) (left : ℕ) (b : Bounds) (v : Visit) : Type 0 where
   pub sure : said v ≡ none → NoneIn passing b
   pub some-seen : 1 ≤ seen v
   pub most-seen : seen v < 2 ^ (left + 1)
-
--- what is known before an end is tried, by a scout at most
-pub record Surveyed (passing : ℕ → Bool) (end : ℕ) (b : Bounds) (v : View) : Type 0 where
-  pub keeps : (k : ℕ) → end ≡ 2 ^ k → Keeps passing b (v .low)
-  pub some-seen : 1 ≤ v .states
-  pub most-seen : v .states ≤ 2097152

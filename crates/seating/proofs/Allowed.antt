@@ -1,18 +1,18 @@
 -- A choice is acceptable, and is one that pick wants, exactly if the rows and columns say so. Assumes nothing.
-use mathlib.Core.Path.{_≡_, refl, ap₂, _∙_}
+use mathlib.Core.Path.{_≡_, refl, ap, ap₂, _∙_}
 use Prim.Native.Nat.{ℕ}
 use mathlib.Core.Bool.{Bool, true, false, not, _&&_, _||_, cond, Bool·not-not}
 use mathlib.Core.List.{List, [], _∷_}
 use mathlib.Core.Option.{Option, none, some}
 use Rattle.paper.specs.Lists.{has, below, all, find}
-use Rattle.paper.specs.Answers.{_>>=_, unless, good, isGood}
+use Rattle.paper.specs.Answers.{_>>=_, unless, judgedBy, isGood}
 use Rattle.paper.specs.Table.{nodes, kind, isFork}
 use Rattle.paper.specs.Offers.{Offer}
-use Rattle.paper.specs.Choices.{Board, acceptable}
+use Rattle.paper.specs.Choices.{Board, rule1, rule2, rule3, rules, acceptable}
 use Rattle.paper.specs.Operations.{named, wanted}
 use Rattle.rows.specs.Struct.{rowsOf}
 use Rattle.rows.specs.declared.Offers.{Offers}
-use Rattle.seating.specs.Seating.{Seated, Columns, rivalled, apart, passed, forks, served, fits, homes, allowed}
+use Rattle.seating.specs.Seating.{Seated, Columns, rivalled, apart, passed, forks, served, fits, homes, noRivals, forksWhole, destinationsFit, allowed}
 use Rattle.seating.proofs.Numbers.{all-below-alike}
 use Rattle.seating.proofs.Rules.{Told, rule1-rows, rule2-rows, rule3-rows, served-rows}
 
@@ -29,24 +29,40 @@ find-clear p (x ∷ xs) = by (p x) (find-clear p xs)
     by true e = refl
     by false e = e
 
-three-clear : (x y z : Option ℕ) → isGood (unless 10 x >>= (λ a. unless 11 y >>= (λ b. unless 12 z >>= (λ c. good (tt {0}))))) ≡ clear x && clear y && clear z
-three-clear (some k) y z = refl
-three-clear none (some k) z = refl
-three-clear none none (some k) = refl
-three-clear none none none = refl
+-- rules that find no place
+judged-clear : {A : Type 0} (rs : List (ℕ × (A → Option ℕ))) (a : A) → isGood (judgedBy rs a) ≡ all (λ r. clear (r .1 a)) rs
+judged-clear [] a = refl
+judged-clear (r ∷ rs) a = by (r .1 a) (judged-clear rs a)
+  where
+    by : (x : Option ℕ) → isGood (judgedBy rs a) ≡ all (λ r. clear (r .1 a)) rs
+        → isGood (unless (r .0) x >>= (λ u. judgedBy rs a)) ≡ clear x && all (λ r. clear (r .1 a)) rs
+    by none e = e
+    by (some k) e = refl
 
 module _ (t : List ℕ) (d : Board) (o : Offers) (links : List ℕ) (ts : List Offer) (ends : List ℕ) (n c : ℕ) (s : Seated t d (rowsOf o links) ts ends n)
     (edge target home : List ℕ) (k : Columns t (o .last) ends edge target home n) (runs stock : List ℕ) (m : Told t (d .current) runs stock) where
+  -- each rule finds no place exactly if the rows say that it is kept
+  clear1 : clear (rule1 d c) ≡ noRivals (o .foes) (o .makers) ends n c
+  unfolding noRivals apart
+  clear1 = ap clear (rule1-rows t d o links ts ends n c s) ∙ find-clear (λ j. has c j && rivalled (o .foes) (o .makers) ends n c j) (below n)
+
+  clear2 : clear (rule2 d c) ≡ forksWhole t (o .node) (o .parents) (o .makers) ends (o .count) n c
+  unfolding forksWhole forks
+  clear2 =
+      ap clear (rule2-rows t d o links ts ends n c s)
+      ∙ find-clear (λ i. isFork (kind t i) && not (passed (o .node) (o .parents) (o .makers) ends (o .count) n c i)) (below (nodes t))
+
+  clear3 : clear (rule3 d c) ≡ destinationsFit t edge target home runs stock n c
+  unfolding destinationsFit homes
+  clear3 =
+      ap clear (rule3-rows t d o links ts ends n c s edge target home k runs stock m)
+      ∙ find-clear (λ i. not (fits t edge target home runs stock n c i)) (below (nodes t))
+      ∙ all-below-alike (λ i. not (not (fits t edge target home runs stock n c i))) (fits t edge target home runs stock n c) (nodes t) (λ i l. Bool·not-not _)
+
   pub acceptable-rows : acceptable d c ≡ allowed t (o .node) (o .parents) (o .makers) (o .foes) ends edge target home runs stock (o .count) n c
-  unfolding acceptable allowed apart forks homes
+  unfolding acceptable allowed
   acceptable-rows =
-      rw (rule1-rows t d o links ts ends n c s, rule2-rows t d o links ts ends n c s, rule3-rows t d o links ts ends n c s edge target home k runs stock m)
-      (three-clear (apart (o .foes) (o .makers) ends n c) (forks (o .node) (o .parents) (o .makers) ends (o .count) n c t) (homes t edge target home runs stock n c)
-      ∙ ap₂ (λ (x y : Bool). x && y)
-      (ap₂ (λ (x y : Bool). x && y) (find-clear (λ j. has c j && rivalled (o .foes) (o .makers) ends n c j) (below n))
-      (find-clear (λ i. isFork (kind t i) && not (passed (o .node) (o .parents) (o .makers) ends (o .count) n c i)) (below (nodes t))))
-      (find-clear (λ i. not (fits t edge target home runs stock n c i)) (below (nodes t))
-      ∙ all-below-alike (λ i. not (not (fits t edge target home runs stock n c i))) (fits t edge target home runs stock n c) (nodes t) (λ i l. Bool·not-not _)))
+      judged-clear (rules d) c ∙ ap₂ (λ (x y : Bool). x && y) clear1 (ap₂ (λ (x y : Bool). x && y) clear2 (ap (λ (x : Bool). x && true) clear3))
 
   pub wanted-rows : (i : ℕ) → wanted d i c ≡ allowed t (o .node) (o .parents) (o .makers) (o .foes) ends edge target home runs stock (o .count) n c && (not (named i) || served target home n c i)
   unfolding wanted

@@ -3,7 +3,7 @@
 use mathlib.Core.Path.{_≡_}
 use Prim.Native.Nat.{ℕ, _+_, _≤_, _<_}
 use mathlib.Core.Bool.{Bool, not, _&&_, _||_, cond}
-use mathlib.Core.List.{List}
+use mathlib.Core.List.{List, [], _∷_}
 use mathlib.Core.Option.{Option}
 use lib.Dec.{leb, eqb}
 use lib.Bits.{bitAnd}
@@ -93,11 +93,21 @@ module _ (t edge target home runs stock : List ℕ) (n c : ℕ) where
   unfoldable pub homes : Option ℕ
   homes = lowest (λ i. not (fits i)) (nodes t)
 
--- ---- all three
-module _ (t node parents makers foes ends edge target home runs stock : List ℕ) (rows n c : ℕ) where
+-- ---- all of them
+-- the rules on choices, in the paper's order and words: no rivals are taken together, forks are passed whole, destinations fit
+unfoldable pub noRivals : List ℕ → List ℕ → List ℕ → ℕ → ℕ → Bool
+noRivals foes makers ends n c = all (λ k. not (has c k && rivalled foes makers ends n c k)) (below n)
+
+unfoldable pub forksWhole : List ℕ → List ℕ → List ℕ → List ℕ → List ℕ → ℕ → ℕ → ℕ → Bool
+forksWhole t node parents makers ends rows n c = all (λ i. not (isFork (kind t i) && not (passed node parents makers ends rows n c i))) (below (nodes t))
+
+unfoldable pub destinationsFit : List ℕ → List ℕ → List ℕ → List ℕ → List ℕ → List ℕ → ℕ → ℕ → Bool
+destinationsFit t edge target home runs stock n c = all (fits t edge target home runs stock n c) (below (nodes t))
+
+module _ (t node parents makers foes ends edge target home runs stock : List ℕ) (rows n : ℕ) where
+  abbrev pub rowRules : List (ℕ → Bool)
+  rowRules = noRivals foes makers ends n ∷ forksWhole t node parents makers ends rows n ∷ destinationsFit t edge target home runs stock n ∷ []
+
   -- the choice c is acceptable
-  unfoldable pub allowed : Bool
-  allowed =
-      all (λ k. not (has c k && rivalled foes makers ends n c k)) (below n)
-      && all (λ i. not (isFork (kind t i) && not (passed node parents makers ends rows n c i))) (below (nodes t))
-      && all (fits t edge target home runs stock n c) (below (nodes t))
+  unfoldable pub allowed : ℕ → Bool
+  allowed c = all (λ rule. rule c) rowRules

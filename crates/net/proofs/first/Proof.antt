@@ -19,13 +19,13 @@ enum-told c = search needs
 returns : tie.Need-returns
 returns c = let a = c .before .before .before .before .before .args in
     let g = c .before .c .given in
-    answers-choice (netOf (a .net .now) (a .want)) (a .m) (c .before .before .before .before .before .pre) (g .0 .0)
+    answers-choice (netOf (a .net .now) (a .want)) (a .m) (c .before .before .before .before .before .pre .1) (g .0 .0)
     (sym (ap said (g .1)) ∙ c .before .before .before .search-all .ensures .0)
 
 returns-2 : tie.Need-returns-2
 returns-2 c = let a = c .before .before .before .before .args in
     let g = c .enum-told .given in
-    answers-nothing (netOf (a .net .now) (a .want)) (a .m) (c .before .before .before .before .pre)
+    answers-nothing (netOf (a .net .now) (a .want)) (a .m) (c .before .before .before .before .pre .1)
     (sym (ap said (g .1)) ∙ c .before .before .search-all .ensures .0)
 
 pub first-spec : {M : Type 1} → statement M

@@ -1,11 +1,12 @@
--- `search_all`: every set of m ends lies between none and all. Assumes nothing.
-use mathlib.Core.Path.{ap}
+-- `search_all`: all that may be had, nothing, or what the search finds after a scout. Assumes nothing.
+use mathlib.Core.Path.{sym, ap, _∙_}
+use Prim.Native.Nat.{ℕ, _+_}
 use native.Mathlib.Omega.{arith}
 use lib.Pow.{pow-pos}
 use Rattle.pruning.specs.Bounds.{good}
-use Rattle.scouting.specs.Scouting.{seen}
+use Rattle.scouting.specs.Scouting.{said, seen}
 use Rattle.scouting.proofs.Scouting.{few-states}
-use Rattle.net.proofs.Searching.{placed-start, whole-none, whole-found}
+use Rattle.net.proofs.Searching.{placed-start, whole-first, whole-none, whole-found}
 use borrow.Author.Needs.{needs}
 use Rattle.net.proofs.search_all.Statement.{statement}
 use Rattle.net.proofs.search_all.Tie as tie
@@ -13,53 +14,70 @@ use Rattle.net.proofs.search_all.Tie as tie
 end-of-requires : tie.Need-end-of-requires
 end-of-requires c κs = search needs
 
-sub-t10 : tie.Need-sub-t10
-sub-t10 c = let e = c .end-of .ensures in let p = pow-pos (c .before .before .args .m) in omega arith
+sub-t12 : tie.Need-sub-t12
+sub-t12 c = let a = c .before .before .args in omega (arith, c .end-of .ensures, pow-pos (a .m))
 
-scout-requires : tie.Need-scout-requires
-scout-requires c κs = search needs
+settle-requires : tie.Need-settle-requires
+settle-requires c κs = search needs
 
-enum-known-c : tie.Need-enum-known-c
-enum-known-c c = search needs
-
-search-requires : tie.Need-search-requires
-search-requires c κs = let a = c .before .before .before .before .before .before .args in let pre = c .before .before .before .before .before .before .pre in (pre, placed-start (a .m))
-
-after-requires : tie.Need-after-requires
-after-requires c κs = let a = c .before .before .before .before .before .before .before .args in
-    let v = c .search .ensures .most-seen in
-    let k = c .before .before .before .before .scout .ensures .most-seen in
-    let e = ap seen (c .before .before .c .given .1) in
-    let s = few-states (a .m) (a .m) (omega arith) (c .before .before .before .before .before .before .before .pre) in
-    omega arith
-
-enum-known-more : tie.Need-enum-known-more
-enum-known-more c = search needs
+is-first-requires : tie.Need-is-first-requires
+is-first-requires c κs = search needs
 
 returns : tie.Need-returns
-returns c = let a = c .before .before .before .before .before .before .before .before .args in
-    let end = c .before .before .before .before .before .before .end-of in
-    let v = c .before .search in
-    let k = c .before .before .before .before .before .scout .ensures .most-seen in
-    let e = ap seen (c .before .before .before .c .given .1) in
-    whole-found (good (a .net .now) (a .want)) (a .m) (end .result) (end .ensures) (v .result) (v .ensures) _ (omega arith) (c .before .before .before .before .before .before .before .before .pre) (c .after .result) (c .after .ensures .0) (c .after .ensures .1)
+returns c = let a = c .before .before .before .before .before .args in
+    let g = c .before .is-first .ensures (c .if1 .taken) in
+    whole-first (good (a .net .now) (a .want)) (a .m) (c .before .before .before .end-of .result) (c .before .before .before .end-of .ensures) (c .before .before .before .before .before .pre .1) (c .before .before .settle .result) (c .before .before .settle .ensures) (g .0) (g .1) (g .2)
+
+scout-requires : tie.Need-scout-requires
+scout-requires c κs = let pre = c .before .before .before .before .before .pre in (pre .0, pre .1)
+
+enum-known-view : tie.Need-enum-known-view
+enum-known-view c = search needs
 
 returns-2 : tie.Need-returns-2
-returns-2 c = let a = c .before .before .before .before .before .before .args in
-    let end = c .before .before .before .before .end-of in
-    let f = c .before .before .before .scout in
-    whole-none (good (a .net .now) (a .want)) (a .m) (end .result) (end .ensures) (f .result) (f .ensures) _ (c .before .more .given .1)
+returns-2 c = let a = c .before .before .before .before .before .before .before .before .before .args in
+    let g = c .before .view .given in
+    whole-none (good (a .net .now) (a .want)) (a .m) (c .before .before .before .before .before .before .before .end-of .result) (c .before .before .before .before .before .before .before .end-of .ensures) (c .before .before .before .before .before .before .before .before .before .pre .1) (c .before .before .before .before .before .before .settle .result) (c .before .before .before .before .before .before .settle .ensures) (c .before .before .before .scout .result) (c .before .before .before .scout .ensures) _ (ap seen (g .1)) (ap said (g .1))
+
+enum-told : tie.Need-enum-told
+enum-told c = search needs
+
+hint-of-requires : tie.Need-hint-of-requires
+hint-of-requires c κs = search needs
+
+search-requires : tie.Need-search-requires
+search-requires c κs = let a = c .before .before .before .before .before .before .before .before .before .args in let pre = c .before .before .before .before .before .before .before .before .before .pre in (pre .0, pre .1, placed-start (a .m))
+
+states-of-requires : tie.Need-states-of-requires
+states-of-requires c κs = search needs
+
+after-requires : tie.Need-after-requires
+after-requires c κs = let a = c .before .before .before .before .before .before .before .before .before .before .before .args in
+    let pre = c .before .before .before .before .before .before .before .before .before .before .before .pre in
+    let v = c .before .search .ensures .most-seen in
+    let e = c .states-of .ensures in
+    omega (arith, c .before .before .before .before .before .scout .ensures .most-seen, few-states (a .m) 20 (pre .1) (omega arith))
+
+returns-3 : tie.Need-returns-3
+returns-3 c = let a = c .before .before .before .before .before .before .before .before .before .before .before .before .args in
+    let e = c .before .states-of .ensures in
+    whole-found (good (a .net .now) (a .want)) (a .m) (c .before .before .before .before .before .before .before .before .before .before .end-of .result) (c .before .before .before .before .before .before .before .before .before .before .end-of .ensures) (c .before .before .before .before .before .before .before .before .before .before .before .before .pre .1) (c .before .before .before .before .before .before .before .before .before .settle .result) (c .before .before .before .before .before .before .before .before .before .settle .ensures) (c .before .before .search .result) (c .before .before .search .ensures) (c .before .states-of .result) (omega (arith, c .before .before .before .before .before .before .scout .ensures .most-seen)) (c .after .result) (c .after .ensures .0) (c .after .ensures .1)
 
 pub search-all-spec : {M : Type 1} → statement M
 search-all-spec =
     tie.close
     (tie.spec
     end-of-requires
-    sub-t10
-    scout-requires
-    enum-known-c
-    search-requires
-    after-requires
-    enum-known-more
+    sub-t12
+    settle-requires
+    is-first-requires
     returns
-    returns-2)
+    scout-requires
+    enum-known-view
+    returns-2
+    enum-told
+    hint-of-requires
+    search-requires
+    states-of-requires
+    after-requires
+    returns-3)

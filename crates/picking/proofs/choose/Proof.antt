@@ -1,5 +1,5 @@
 -- `choose`: the first set that passes the net is the first that is wanted. Assumes nothing.
-use Rattle.rules.proofs.Picking.{found-on}
+use Rattle.picking.proofs.Laws.{found-on}
 use borrow.Author.Needs.{needs}
 use Rattle.picking.proofs.choose.Statement.{statement}
 use Rattle.picking.proofs.choose.Tie as tie

@@ -11,6 +11,9 @@ Inv-loop net want low₀ before₀ after₀ low before after = Keeps (good net w
 abbrev μ-loop : tie.MeasureT-loop
 μ-loop net want low₀ before₀ after₀ low before after = before
 
+shun-requires : tie.Need-shun-requires Inv-loop μ-loop
+shun-requires c κs = search needs
+
 tighten-requires : tie.Need-tighten-requires Inv-loop μ-loop
 tighten-requires c κs = search needs
 
@@ -21,8 +24,7 @@ slack-requires-2 : tie.Need-slack-requires-2 Inv-loop μ-loop
 slack-requires-2 c κs = search needs
 
 loop-holds : tie.Need-loop-holds Inv-loop μ-loop
-loop-holds c = let a = c .before .before .before .before .args in
-    keeps-all (good (a .net .now) (a .want)) (c .before .before .tighten .result)
+loop-holds c = let a = c .before .before .before .before .before .args in keeps-all (good (a .net .now) (a .want)) (c .before .before .tighten .result)
 
 tighten-requires-2 : tie.Need-tighten-requires-2 Inv-loop μ-loop
 tighten-requires-2 c κs = search needs
@@ -34,14 +36,16 @@ loop-less : tie.Need-loop-less Inv-loop μ-loop
 loop-less c = search needs
 
 loop-again : tie.Need-loop-again Inv-loop μ-loop
-loop-again c = let a = c .before .before .before .before .before .before .before .before .args in
+loop-again c = let a = c .before .before .before .before .before .before .before .before .before .args in
     let l = c .before .before .before .loop in
     keeps-then (good (a .net .now) (a .want)) (c .before .before .before .before .before .before .tighten .result) (l .low) (c .before .tighten2 .result) (l .inv) (c .before .tighten2 .ensures)
 
 returns : tie.Need-returns Inv-loop μ-loop
-returns c = let a = c .before .before .before .before .before .before .args in
+returns c = let a = c .before .before .before .before .before .before .before .args in
+    let s = c .before .before .before .before .before .shun in
     let t = c .before .before .before .before .tighten in
-    keeps-then (good (a .net .now) (a .want)) (a .b) (t .result) (c .before .loop .low) (t .ensures) (c .before .loop .inv)
+    let g = good (a .net .now) (a .want) in
+    keeps-then g (a .b) (s .result) (c .before .loop .low) (s .ensures (a .want)) (keeps-then g (s .result) (t .result) (c .before .loop .low) (t .ensures) (c .before .loop .inv))
 
 pub settle-spec : {M : Type 1} → statement M
 settle-spec =
@@ -49,6 +53,7 @@ settle-spec =
     (tie.spec
     Inv-loop
     μ-loop
+    shun-requires
     tighten-requires
     slack-requires
     slack-requires-2

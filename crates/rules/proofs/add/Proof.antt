@@ -1,16 +1,26 @@
--- `rules::add` meets its contract: a rule that nothing meets says nothing, another is one row more. Assumes nothing.
+-- `rules::add` meets its contract: a rule that binds nothing says nothing, another is one row more. Assumes nothing.
+use mathlib.Core.Path.{sym, _∙_}
 use native.Mathlib.Omega.{arith}
 use lib.ListN.{length-set}
 use borrow.Author.Needs.{needs}
-use Rattle.rules.proofs.Rows.{added-empty, added-row}
+use Rattle.rules.proofs.Rows.{added-none, added-same, added-row}
 use Rattle.rules.proofs.add.Statement.{statement}
 use Rattle.rules.proofs.add.Tie as tie
 
+bound-requires : tie.Need-bound-requires
+bound-requires c κs = search needs
+
+is-idle-requires : tie.Need-is-idle-requires
+is-idle-requires c κs = search needs
+
 returns : tie.Need-returns
-returns c = λ m. let a = c .before .args in added-empty (a .when) (a .only) (a .lo) (a .hi) m (c .if1 .taken)
+returns c = λ m l. let a = c .before .before .before .before .args .new in added-none (λ x. sym (c .before .before .bound .ensures m (a .when) (a .lo) x l) ∙ c .before .is-idle .ensures (c .if1 .taken) m x l)
 
 mul-j : tie.Need-mul-j
 mul-j c = search needs
+
+add-j : tie.Need-add-j
+add-j c = search needs
 
 mul-net : tie.Need-mul-net
 mul-net c = search needs
@@ -52,14 +62,20 @@ same-length : tie.Need-same-length
 same-length c = search needs
 
 returns-2 : tie.Need-returns-2
-returns-2 c = let a = c .before .args in added-row (a .net .now) (a .k) (a .when) (a .only) (a .lo) (a .hi) (search needs)
+returns-2 c = λ m l.
+    let a = c .before .before .before .before .args in
+    let n = a .new in
+    added-same (λ x. c .before .before .bound .ensures m (n .when) (n .lo) x l) (added-row (a .net .now) (a .k) (n .when) (n .only) (n .lo) (c .before .before .bound .result) (search needs) m)
 
 pub add-spec : {M : Type 1} → statement M
 add-spec =
     tie.close
     (tie.spec
+    bound-requires
+    is-idle-requires
     returns
     mul-j
+    add-j
     mul-net
     slice-write-net
     add-net

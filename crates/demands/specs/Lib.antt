@@ -1,0 +1,2 @@
+-- What is asked of open ends.
+pub mod Demands

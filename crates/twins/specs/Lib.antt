@@ -1,0 +1,2 @@
+-- What twins are.
+pub mod Twins
