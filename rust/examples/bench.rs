@@ -1,6 +1,7 @@
 //! The six operations timed beside the plain reading of the paper, in one run and build: the small event, a day of 41 nodes and 40 edges with 11 ends, the
-//! limits, and events on which joins or picks are hard. Prints medians in microseconds, how many times as long the reading takes, and the bytes of stack
-//! that the engine's call takes.
+//! limits, and events on which joins or picks are hard: forks of decisions, and what was hunted for by climbing (`crates/vectors/worst.txt`). Prints medians
+//! in microseconds, how many times as long the reading takes, the bytes of stack that the engine's call takes, and for the last the states that pick's
+//! search visits: the archive doesn't count them, the gate holds the engine to the numbers of that file.
 //!
 //!     cargo run --release --example bench
 
@@ -39,7 +40,7 @@ struct Point {
 }
 
 fn main() -> Result<(), Refusal> {
-    println!("{:8} {:16} {:>11} {:>12} {:>9} {:>7}", "", "", "engine us", "reading us", "ratio", "stack");
+    println!("{:8} {:18} {:>11} {:>12} {:>9} {:>7} {:>7}", "", "", "engine us", "reading us", "ratio", "stack", "states");
     for point in [small()?, day()?, limits()?] {
         all_six(&point);
     }
@@ -51,7 +52,27 @@ fn main() -> Result<(), Refusal> {
             pick(&format!("{name} for {node}"), &table, &marking, &guards, *node);
         }
     }
+    let slowest = worst().fold(0.0, f64::max);
+    println!("slowest of the picks with states: {slowest:.1} us");
     Ok(())
+}
+
+/// The picks that are known to be hard, with the states that they visit: how long each takes.
+fn worst() -> impl Iterator<Item = f64> {
+    let lines = include_str!("../../crates/vectors/worst.txt").lines().enumerate();
+    lines.filter(|(_, line)| !line.starts_with('#')).map(|(number, line)| {
+        let words: Vec<&str> = line.split(' ').collect();
+        let (table, marking, guards) = (hex(words[0]), hex(words[1]), hex(words[2]));
+        let node: u8 = words[3].parse().expect("a node");
+        let name = format!("worst {} for {node}", number + 1);
+        row(
+            "pick",
+            &name,
+            words[4],
+            |out| keshmirun::pick(&table, &marking, &guards, node, out),
+            || reading::pick_within(&table, &marking, &guards, node, 4096, BUDGET),
+        )
+    })
 }
 
 /// The paper's small event; the second end is taken, and the action finished.
@@ -99,34 +120,48 @@ fn written(operation: impl Fn(&mut [u8]) -> Result<usize, Refusal>) -> Result<Ve
 
 fn all_six(point: &Point) {
     let Point { name, table, values, marking, guards, choice, running, action, results } = point;
-    row("check", name, |_| keshmirun::check(table).map(|_| 0), || Some(reading::check(table)));
-    row("start", name, |out| keshmirun::start(table, values, out), || Some(reading::start(table, values, 4096)));
+    row("check", name, "", |_| keshmirun::check(table).map(|_| 0), || Some(reading::check(table)));
+    row("start", name, "", |out| keshmirun::start(table, values, out), || Some(reading::start(table, values, 4096)));
     sheet(name, table, marking, guards);
     pick(name, table, marking, guards, NO_NODE);
     row(
         "step",
         name,
+        "",
         |out| keshmirun::step(table, marking, guards, choice, out),
         || reading::step_within(table, marking, guards, choice, 4096, BUDGET),
     );
     row(
         "finish",
         name,
+        "",
         |out| keshmirun::finish(table, running, *action, results, out),
         || Some(reading::finish(table, running, *action, results, 4096)),
     );
 }
 
 fn sheet(name: &str, table: &[u8], marking: &[u8], guards: &[u8]) {
-    row("sheet", name, |out| keshmirun::sheet(table, marking, guards, out), || reading::sheet_within(table, marking, guards, 4096, BUDGET));
+    row("sheet", name, "", |out| keshmirun::sheet(table, marking, guards, out), || reading::sheet_within(table, marking, guards, 4096, BUDGET));
 }
 
 fn pick(name: &str, table: &[u8], marking: &[u8], guards: &[u8], node: u8) {
-    row("pick", name, |out| keshmirun::pick(table, marking, guards, node, out), || reading::pick_within(table, marking, guards, node, 4096, BUDGET));
+    row(
+        "pick",
+        name,
+        "",
+        |out| keshmirun::pick(table, marking, guards, node, out),
+        || reading::pick_within(table, marking, guards, node, 4096, BUDGET),
+    );
 }
 
-/// Times both, and prints a line. Both must say the same, where the reading comes to its answer.
-fn row(operation: &str, event: &str, engine: impl Fn(&mut [u8]) -> Result<usize, Refusal> + Sync, plain: impl Fn() -> Option<Answer>) {
+/// Times both, and prints a line: how long the engine takes. Both must say the same, where the reading comes to its answer.
+fn row(
+    operation: &str,
+    event: &str,
+    states: &str,
+    engine: impl Fn(&mut [u8]) -> Result<usize, Refusal> + Sync,
+    plain: impl Fn() -> Option<Answer>,
+) -> f64 {
     let mut out = [0; 4096];
     let answer = match engine(&mut out) {
         Ok(length) => Answer::Good(out[..length].to_vec()),
@@ -142,7 +177,12 @@ fn row(operation: &str, event: &str, engine: impl Fn(&mut [u8]) -> Result<usize,
         let mut lent = vec![0; 4096];
         let _ = engine(&mut lent);
     });
-    println!("{operation:8} {event:16} {fast:>11.2} {:>12} {:>9} {deep:>7}", format!("{bound}{slow:.2}"), format!("{bound}{:.1}", slow / fast));
+    println!(
+        "{operation:8} {event:18} {fast:>11.2} {:>12} {:>9} {deep:>7} {states:>7}",
+        format!("{bound}{slow:.2}"),
+        format!("{bound}{:.1}", slow / fast)
+    );
+    fast
 }
 
 /// The median time of a call over some rounds, in microseconds. The calls of a round fill a while, and what they answer is used.

@@ -5,7 +5,6 @@ use mathlib.Core.Bool.{Bool, true, false, not, _&&_, _||_}
 use mathlib.Core.List.{List}
 use Prim.Native.Nat.{ℕ, _+_, _-_, _*_, _≤_, _<_}
 use native.Mathlib.Decide.{decLt}
-use native.Mathlib.Nat.{mul-le-mul}
 use native.Mathlib.Omega.{arith}
 use lib.ListN.{length, set, length-set}
 use lib.Seq.{getD-set-same, getD-set-other}
@@ -227,7 +226,3 @@ part-and ends of = λ k l e. in-and ends of k e .1
 
 pub part-or : (a ends of : ℕ) → Part a of → Part ends of → Part (bitOr a ends) of
 part-or a ends of f g = λ k l e. ⊎-elim (f k l) (g k l) (or-true (has a k) (has ends k) (sym (has-or a ends k) ∙ e))
-
--- ---- hints
-pub few-ways : (many least : ℕ) → many ≤ 32 → least ≤ 32 → (many - least + 1) * least ≤ 1056
-few-ways many least l m = let f : many - least + 1 ≤ 33 = omega arith in omega (arith, mul-le-mul f m)

@@ -30,6 +30,9 @@ const MOST: usize = 20;
 
 const CELLS: usize = 40;
 
+// Any end.
+const EVERY: u32 = 4294967295;
+
 // ---- rivals
 
 // End k joins a group, if it is a rival of all that are in it.
@@ -240,33 +243,6 @@ fn plus(all: Wanted, ends: u32, least: u32) -> Wanted
     }
 }
 
-// What is asked for in all, the last demands first: those of pins come after those of forks.
-fn all_asked(list: &[u32], count: usize) -> Wanted
-    requires { ⌜ (count ≤ 20) × (40 ≤ length (now list)) ⌝ }
-    ensures { λ r. ⌜ ((passing : ℕ → Bool) (b : Bounds) → Listed passing b (now (list .entry)) count → Asks passing b (r .ends) (r .least)) ⌝ }
-{
-    let mut all = Wanted { ends: 0, least: 0 };
-    let mut i = count;
-    while 0 < i {
-        i -= 1;
-        all = plus(all, list[2 * i], list[2 * i + 1]);
-    }
-    all
-}
-
-// More is asked for than goes together.
-fn is_crowded(net: &[u32], list: &[u32], count: usize) -> bool
-    requires { ⌜ (20 ≤ length (now net)) × (count ≤ 20) × (40 ≤ length (now list)) ⌝ }
-    ensures { λ r. ⌜ (r ≡ true → (want : Wanted) (b : Bounds) → Listed (good (now (net .entry)) want) b (now (list .entry)) count → NoneIn (good (now (net .entry)) want) b) ⌝ }
-{
-    let all = all_asked(list, count);
-    // one end goes together with itself
-    if all.least <= 1 {
-        return false;
-    }
-    crowd(net, all.ends) < all.least
-}
-
 // A demand's share of these ends: what is left of it, if all of its others are taken.
 fn share(ends: u32, least: u32, of: u32) -> Wanted
     ensures { λ r. ⌜ ((passing : ℕ → Bool) (b : Bounds) → Asks passing b ends least → Asks passing b (r .ends) (r .least)) × Part (r .ends) of ⌝ }
@@ -281,19 +257,32 @@ fn share(ends: u32, least: u32, of: u32) -> Wanted
     }
 }
 
-// What is asked for of these ends in all, the first demands first.
+// What is asked for of these ends in all, the last demands first: those of pins come after those of forks.
 fn asked_of(list: &[u32], count: usize, of: u32) -> Wanted
     requires { ⌜ (count ≤ 20) × (40 ≤ length (now list)) ⌝ }
     ensures { λ r. ⌜ ((passing : ℕ → Bool) (b : Bounds) → Listed passing b (now (list .entry)) count → Asks passing b (r .ends) (r .least)) × Part (r .ends) of ⌝ }
 {
     let mut all = Wanted { ends: 0, least: 0 };
-    let mut i: usize = 0;
-    while i < count {
+    let mut i = count;
+    while 0 < i {
+        i -= 1;
         let part = share(list[2 * i], list[2 * i + 1], of);
         all = plus(all, part.ends, part.least);
-        i += 1;
     }
     all
+}
+
+// More is asked for than goes together.
+fn is_crowded(net: &[u32], list: &[u32], count: usize) -> bool
+    requires { ⌜ (20 ≤ length (now net)) × (count ≤ 20) × (40 ≤ length (now list)) ⌝ }
+    ensures { λ r. ⌜ (r ≡ true → (want : Wanted) (b : Bounds) → Listed (good (now (net .entry)) want) b (now (list .entry)) count → NoneIn (good (now (net .entry)) want) b) ⌝ }
+{
+    let all = asked_of(list, count, EVERY);
+    // one end goes together with itself
+    if all.least <= 1 {
+        return false;
+    }
+    crowd(net, all.ends) < all.least
 }
 
 // More is asked for of these ends than so many.
@@ -370,42 +359,39 @@ fn is_overdrawn(net: &[u32], b: Bounds, list: &[u32], count: usize) -> bool
 
 // ---- what to try next: hints, on which nothing relies
 
-// About how many ways there are to meet a demand; one with an end to blame comes before all others.
-fn ways(d: Wanted, blame: u32) -> u32 {
+// How easily a demand is met: by the ends that it has to spare, and of as many by how few it asks for; one with an end to blame comes before all others.
+fn ease(d: Wanted, blame: u32) -> u32 {
     let many = u32::count_ones(d.ends);
     if many < d.least {
         return 0;
     }
-    if 32 < d.least {
-        return 0;
-    }
-    let ways = (many - d.least + 1) * d.least;
+    let ease = 32 * (many - d.least) + (32 - d.least);
     if pruning::meets(d.ends, blame) {
-        return ways;
+        return ease;
     }
-    ways + 1000
+    ease + 2000
 }
 
-// Of two demands the one that leaves fewer ways.
-fn fewer(c: Wanted, d: Wanted, blame: u32) -> Wanted {
+// Of two demands the harder one, and of two that are as hard the second.
+fn harder(c: Wanted, d: Wanted, blame: u32) -> Wanted {
     if c.least == 0 {
         return d;
     }
-    if ways(d, blame) < ways(c, blame) {
-        return d;
+    if ease(c, blame) < ease(d, blame) {
+        return c;
     }
-    c
+    d
 }
 
-// The demand that leaves the fewest ways; none, if none is listed.
-fn fewest(list: &[u32], count: usize, blame: u32) -> Wanted
+// The hardest demand; none, if none is listed.
+fn hardest(list: &[u32], count: usize, blame: u32) -> Wanted
     requires { ⌜ (count ≤ 20) × (40 ≤ length (now list)) ⌝ }
 {
-    let mut few = Wanted { ends: 0, least: 0 };
+    let mut hard = Wanted { ends: 0, least: 0 };
     let mut i: usize = 0;
     while i < count {
-        few = fewer(
-            few,
+        hard = harder(
+            hard,
             Wanted {
                 ends: list[2 * i],
                 least: list[2 * i + 1],
@@ -414,7 +400,7 @@ fn fewest(list: &[u32], count: usize, blame: u32) -> Wanted
         );
         i += 1;
     }
-    few
+    hard
 }
 
 // What is seen between settled bounds, where `blame` has ends that could not be had before.
@@ -424,7 +410,7 @@ pub fn look(net: &[u32], want: Wanted, blame: u32, b: Bounds) -> View
 {
     let mut list = [0u32; CELLS];
     let count = list_all(net, want, b, &mut list);
-    let next = fewest(&list, count, blame);
+    let next = hardest(&list, count, blame);
     if is_crowded(net, &list, count) {
         return View {
             hopeless: true,

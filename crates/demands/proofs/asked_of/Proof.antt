@@ -2,11 +2,11 @@
 use mathlib.Core.Bool.{Bool}
 use Prim.Native.Nat.{ℕ, _-_, _≤_}
 use native.Mathlib.Omega.{arith}
-use borrow.Author.Needs.{needs}
 use Rattle.pruning.specs.declared.Bounds.{Bounds}
 use Rattle.pruning.specs.Bounds.{Part}
 use Rattle.demands.specs.Demands.{Asks, Listed}
 use Rattle.demands.proofs.Demands.{asks-none, part-none}
+use borrow.Author.Needs.{needs}
 use Rattle.demands.proofs.asked_of.Statement.{statement}
 use Rattle.demands.proofs.asked_of.Tie as tie
 
@@ -14,10 +14,13 @@ abbrev Inv-loop : tie.InvT-loop
 Inv-loop list count of all₀ i₀ all i = (i ≤ count) × ((p : ℕ → Bool) (b : Bounds) → Listed p b list count → Asks p b (all .ends) (all .least)) × Part (all .ends) of
 
 abbrev μ-loop : tie.MeasureT-loop
-μ-loop list count of all₀ i₀ all i = count - i
+μ-loop list count of all₀ i₀ all i = i
 
 loop-holds : tie.Need-loop-holds Inv-loop μ-loop
 loop-holds c = (search needs, λ p b f. asks-none p b 0, part-none (c .before .args .of))
+
+sub-i : tie.Need-sub-i Inv-loop μ-loop
+sub-i c = search needs
 
 mul-share : tie.Need-mul-share Inv-loop μ-loop
 mul-share c = search needs
@@ -46,16 +49,14 @@ share-requires c κs = search needs
 plus-requires : tie.Need-plus-requires Inv-loop μ-loop
 plus-requires c κs = search needs
 
-add-i : tie.Need-add-i Inv-loop μ-loop
-add-i c = search needs
-
 loop-less : tie.Need-loop-less Inv-loop μ-loop
 loop-less c = search needs
 
 loop-again : tie.Need-loop-again Inv-loop μ-loop
 loop-again c = let l = c .before .before .before .before .before .loop in
     let t = c .before .before .before .before .loop-test .taken in
-    (search needs, λ p b f. c .plus .ensures .0 p b (l .inv .1 p b f) (c .before .share .ensures .0 p b (f (l .i) (omega arith))), c .plus .ensures .1 (c .before .before .before .before .before .before .before .args .of) (l .inv .2) (c .before .share .ensures .1))
+    let q = l .inv .0 in
+    (search needs, λ p b f. c .plus .ensures .0 p b (l .inv .1 p b f) (c .before .share .ensures .0 p b (f (l .i - 1) (omega arith))), c .plus .ensures .1 (c .before .before .before .before .before .before .before .args .of) (l .inv .2) (c .before .share .ensures .1))
 
 returns : tie.Need-returns Inv-loop μ-loop
 returns c = (c .before .loop .inv .1, c .before .loop .inv .2)
@@ -67,6 +68,7 @@ asked-of-spec =
     Inv-loop
     μ-loop
     loop-holds
+    sub-i
     mul-share
     mul-share-2
     shared-slice-read-share
@@ -76,7 +78,6 @@ asked-of-spec =
     shared-slice-read-share-2
     share-requires
     plus-requires
-    add-i
     loop-less
     loop-again
     returns)

@@ -10,8 +10,8 @@ use Rattle.demands.proofs.Demands.{crowded}
 use Rattle.demands.proofs.is_crowded.Statement.{statement}
 use Rattle.demands.proofs.is_crowded.Tie as tie
 
-all-asked-requires : tie.Need-all-asked-requires
-all-asked-requires c κs = search needs
+asked-of-requires : tie.Need-asked-of-requires
+asked-of-requires c κs = search needs
 
 returns : tie.Need-returns
 returns c = λ e. never false e refl
@@ -21,9 +21,9 @@ crowd-requires c κs = search needs
 
 returns-2 : tie.Need-returns-2
 returns-2 c = let a = c .before .before .before .before .before .before .before .args in
-    let all = c .before .before .before .before .all-asked in
+    let all = c .before .before .before .before .asked-of in
     let most = c .before .crowd in
-    λ e want b f. let p = good (a .net .now) want in crowded p b (all .result .ends) (all .result .least) (most .result) (all .ensures p b f) (most .ensures want) (omega (arith, ltb-true, leb-true))
+    λ e want b f. let p = good (a .net .now) want in crowded p b (all .result .ends) (all .result .least) (most .result) (all .ensures .0 p b f) (most .ensures want) (omega (arith, ltb-true, leb-true))
 
 pub is-crowded-spec : {M : Type 1} → statement M
-is-crowded-spec = tie.close (tie.spec all-asked-requires returns crowd-requires returns-2)
+is-crowded-spec = tie.close (tie.spec asked-of-requires returns crowd-requires returns-2)

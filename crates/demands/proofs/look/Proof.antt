@@ -9,11 +9,11 @@ slice-aggregate-list-all c = search needs
 list-all-requires : tie.Need-list-all-requires
 list-all-requires c κs = search needs
 
-slice-aggregate-fewest : tie.Need-slice-aggregate-fewest
-slice-aggregate-fewest c = search needs
+slice-aggregate-hardest : tie.Need-slice-aggregate-hardest
+slice-aggregate-hardest c = search needs
 
-fewest-requires : tie.Need-fewest-requires
-fewest-requires c κs = search needs
+hardest-requires : tie.Need-hardest-requires
+hardest-requires c κs = search needs
 
 slice-aggregate-is-crowded : tie.Need-slice-aggregate-is-crowded
 slice-aggregate-is-crowded c = search needs
@@ -41,8 +41,8 @@ look-spec =
     (tie.spec
     slice-aggregate-list-all
     list-all-requires
-    slice-aggregate-fewest
-    fewest-requires
+    slice-aggregate-hardest
+    hardest-requires
     slice-aggregate-is-crowded
     is-crowded-requires
     returns

@@ -1,14 +1,14 @@
--- `fewest`: cells below the list's length are read. Assumes nothing.
+-- `hardest`: a hint; the loop ends. Assumes nothing.
 use Prim.Native.Nat.{_-_, _≤_}
 use borrow.Author.Needs.{needs}
-use Rattle.demands.proofs.fewest.Statement.{statement}
-use Rattle.demands.proofs.fewest.Tie as tie
+use Rattle.demands.proofs.hardest.Statement.{statement}
+use Rattle.demands.proofs.hardest.Tie as tie
 
 abbrev Inv-loop : tie.InvT-loop
-Inv-loop list count blame few₀ i₀ few i = i ≤ count
+Inv-loop list count blame hard₀ i₀ hard i = i ≤ count
 
 abbrev μ-loop : tie.MeasureT-loop
-μ-loop list count blame few₀ i₀ few i = count - i
+μ-loop list count blame hard₀ i₀ hard i = count - i
 
 loop-holds : tie.Need-loop-holds Inv-loop μ-loop
 loop-holds c = search needs
@@ -34,8 +34,8 @@ mul-t13 c = search needs
 shared-slice-read-t15 : tie.Need-shared-slice-read-t15 Inv-loop μ-loop
 shared-slice-read-t15 c = search needs
 
-fewer-requires : tie.Need-fewer-requires Inv-loop μ-loop
-fewer-requires c κs = search needs
+harder-requires : tie.Need-harder-requires Inv-loop μ-loop
+harder-requires c κs = search needs
 
 add-i : tie.Need-add-i Inv-loop μ-loop
 add-i c = search needs
@@ -49,8 +49,8 @@ loop-again c = search needs
 returns : tie.Need-returns Inv-loop μ-loop
 returns c = search needs
 
-pub fewest-spec : {M : Type 1} → statement M
-fewest-spec =
+pub hardest-spec : {M : Type 1} → statement M
+hardest-spec =
     tie.close
     (tie.spec
     Inv-loop
@@ -63,7 +63,7 @@ fewest-spec =
     add-t12
     mul-t13
     shared-slice-read-t15
-    fewer-requires
+    harder-requires
     add-i
     loop-less
     loop-again
