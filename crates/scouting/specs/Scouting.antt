@@ -5,6 +5,7 @@ use mathlib.Core.Bool.{Bool}
 use mathlib.Core.Option.{Option, none, some}
 use Rattle.pruning.specs.declared.Bounds.{Bounds}
 use Rattle.pruning.specs.Bounds.{NoneIn}
+use Rattle.scouting.specs.declared.Hint.{Hint}
 use Rattle.scouting.specs.declared.Visit.{Visit}
 use Rattle.scouting.specs.declared.Visit.the-variants.{Choice, Nothing}
 
@@ -15,6 +16,11 @@ said (Nothing c n) = none
 abbrev pub seen : Visit → ℕ
 seen (Choice c n) = n
 seen (Nothing c n) = n
+
+-- the hint r after a visit, where it was h: the set that was found is in view, or what was before
+abbrev pub Hinted : Visit → Hint → Hint → Type 0
+Hinted (Choice c n) h r = (r .ends ≡ c) × (r .blame ≡ h .blame)
+Hinted (Nothing c n) h r = r .ends ≡ h .ends
 
 -- a scout who finds nothing is right; trying `left` ends at most, it visits a state at least, and no more than all
 pub record Scouted (passing : ℕ → Bool) (left : ℕ) (b : Bounds) (v : Visit) : Type 0 where

@@ -6,7 +6,7 @@ ghost use mathlib.Core.Path.{_≡_};
 ghost use Prim.Native.Nat.{_+_, _^_, _≤_, _<_};
 ghost use lib.ListN.{length};
 ghost use Rattle.pruning.specs.Bounds.{good};
-ghost use Rattle.scouting.specs.Scouting.{said, seen, Scouted};
+ghost use Rattle.scouting.specs.Scouting.{said, seen, Hinted, Scouted};
 
 // What a search found, or ends to blame that could not be had, and how many states it visited.
 pub enum Visit {
@@ -43,7 +43,9 @@ pub fn after(states: usize, v: Visit) -> Visit
 }
 
 // The hint that a visit leaves: its set, or else what it blames, if anything.
-pub fn hint_of(v: Visit, h: Hint) -> Hint {
+pub fn hint_of(v: Visit, h: Hint) -> Hint
+    ensures { λ r. ⌜ Hinted v h r ⌝ }
+{
     match v {
         Visit::Choice(c, _) => Hint {
             ends: c,
@@ -53,7 +55,10 @@ pub fn hint_of(v: Visit, h: Hint) -> Hint {
     }
 }
 
-fn blaming(ends: u32, h: Hint) -> Hint {
+// The hint with these ends to blame, if there are any.
+fn blaming(ends: u32, h: Hint) -> Hint
+    ensures { λ r. ⌜ r .ends ≡ h .ends ⌝ }
+{
     if ends == 0 {
         return h;
     }
@@ -73,6 +78,16 @@ fn next_of(ends: u32, view: u32) -> u32 {
     u32::trailing_zeros(ends)
 }
 
+// A set between bounds where nothing is lacked: all that may be had, if that passes. A hint: the more ends it has, the fewer scouts follow.
+fn widest(net: &[u32], want: Wanted, b: Bounds) -> u32
+    requires { ⌜ 20 ≤ length (now net) ⌝ }
+{
+    if pruning::passes(net, want, b.may) {
+        return b.may;
+    }
+    b.must
+}
+
 // Looks for some set that passes between settled bounds, trying at most so many ends. Only 'nothing' is sure.
 pub fn scout(net: &[u32], want: Wanted, left: usize, h: Hint, b: Bounds) -> Visit
     requires { ⌜ (20 ≤ length (now net)) × (left ≤ 20) ⌝ }
@@ -87,7 +102,7 @@ pub fn scout(net: &[u32], want: Wanted, left: usize, h: Hint, b: Bounds) -> Visi
     }
     let k = next_of(view.next.ends, h.ends);
     if left == 0 || k >= 32 {
-        return Visit::Choice(b.must, 1);
+        return Visit::Choice(widest(net, want, b), 1);
     }
     let end = words::end_of(k as usize);
     let with = pruning::settle(net, want, pruning::add(end, b));

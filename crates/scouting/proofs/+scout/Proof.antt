@@ -22,6 +22,7 @@ use Rattle.scouting.proofs.blaming.Reads as blaming-reads
 use Rattle.scouting.proofs.hint_of.Reads as hint-of-reads
 use Rattle.scouting.proofs.next_of.Reads as next-of-reads
 use Rattle.scouting.proofs.states_of.Reads as states-of-reads
+use Rattle.scouting.proofs.widest.Reads as widest-reads
 use Rattle.twins.proofs.twins.Reads as twins-reads
 use Rattle.words.proofs.end_of.Reads as end-of-reads
 use Rattle.scouting.proofs.+scout.{statement}
@@ -44,6 +45,8 @@ calls t = (
   look-reads.Learnt,
   next-of-reads.Asked,
   next-of-reads.Learnt,
+  widest-reads.Asked,
+  widest-reads.Learnt,
   end-of-reads.Asked,
   end-of-reads.Learnt,
   add-reads.Asked,
@@ -85,8 +88,11 @@ scout-returns-2 t c = let a = c .before .before .before .before .before .args in
 scout-next-of-requires : (t : ℕ) → scout-lts.Need-next-of-requires (calls t) (scout-at t) scout′.Post
 scout-next-of-requires t c κs = search needs
 
+scout-widest-requires : (t : ℕ) → scout-lts.Need-widest-requires (calls t) (scout-at t) scout′.Post
+scout-widest-requires t c κs = let pre = c .before .before .before .before .before .before .before .pre in pre .1 .0
+
 scout-returns-3 : (t : ℕ) → scout-lts.Need-returns-3 (calls t) (scout-at t) scout′.Post
-scout-returns-3 t c = let a = c .before .before .before .before .before .before .before .args in
+scout-returns-3 t c = let a = c .before .before .before .before .before .before .before .before .args in
     scouts-alive (good (a .net .now) (a .want)) (a .left) (a .b) _
 
 scout-cast-end-of : (t : ℕ) → scout-lts.Need-cast-end-of (calls t) (scout-at t) scout′.Post
@@ -112,8 +118,8 @@ scout-scout-requires t c κs = let pre = c .before .before .before .before .befo
 scout-enum-known-f : (t : ℕ) → scout-lts.Need-enum-known-f (calls t) (scout-at t) scout′.Post
 scout-enum-known-f t c = search needs
 
-scout-add-t24 : (t : ℕ) → scout-lts.Need-add-t24 (calls t) (scout-at t) scout′.Post
-scout-add-t24 t c = let a = c .before .before .before .before .before .before .before .before .before .before .before .before .before .before .before .args in
+scout-add-t25 : (t : ℕ) → scout-lts.Need-add-t25 (calls t) (scout-at t) scout′.Post
+scout-add-t25 t c = let a = c .before .before .before .before .before .before .before .before .before .before .before .before .before .before .before .args in
     let pre = c .before .before .before .before .before .before .before .before .before .before .before .before .before .before .before .pre .1 in
     let v = c .before .before .before .scout .ensures .most-seen in
     let e = ap seen (c .before .f .given .1) in
@@ -205,6 +211,7 @@ pub +scout-spec : {M : Type 1} → statement M
     (scout-look-requires t)
     (scout-returns-2 t)
     (scout-next-of-requires t)
+    (scout-widest-requires t)
     (scout-returns-3 t)
     (scout-cast-end-of t)
     (scout-end-of-requires t)
@@ -213,7 +220,7 @@ pub +scout-spec : {M : Type 1} → statement M
     (scout-sub-scout t)
     (scout-scout-requires t)
     (scout-enum-known-f t)
-    (scout-add-t24 t)
+    (scout-add-t25 t)
     (scout-returns-4 t)
     (scout-enum-told t)
     (scout-states-of-requires t)
