@@ -19,6 +19,12 @@ struct Group {
     common: u32,
 }
 
+// At most so many of these ends may be had.
+struct Room {
+    ends: u32,
+    most: u32,
+}
+
 // What is seen between bounds: whether nothing is left there, and open ends of which so many are lacked, to be tried next. The ends are a hint.
 pub struct View {
     pub hopeless: bool,
@@ -319,20 +325,20 @@ fn is_cap(rule: Rule, b: Bounds, list: &[u32], count: usize) -> bool
     rouses(list, count, rule.when)
 }
 
-// Two caps as one, if no end is in both. `least` is the most that may be had.
-fn both_caps(all: Wanted, rule: Rule) -> Wanted
-    ensures { λ r. ⌜ ((passing : ℕ → Bool) (b : Bounds) → Caps passing b (all .ends) (all .least) → Caps passing b (rule .only) (rule .hi) → Caps passing b (r .ends) (r .least)) ⌝ }
+// Two caps as one, if no end is in both.
+fn both_caps(all: Room, rule: Rule) -> Room
+    ensures { λ r. ⌜ ((passing : ℕ → Bool) (b : Bounds) → Caps passing b (all .ends) (all .most) → Caps passing b (rule .only) (rule .hi) → Caps passing b (r .ends) (r .most)) ⌝ }
 {
     if pruning::meets(all.ends, rule.only) {
         return all;
     }
     // no more ends are to be had
-    if 32 < all.least || 32 < rule.hi {
+    if 32 < all.most || 32 < rule.hi {
         return all;
     }
-    Wanted {
+    Room {
         ends: all.ends | rule.only,
-        least: all.least + rule.hi,
+        most: all.most + rule.hi,
     }
 }
 
@@ -341,7 +347,7 @@ fn is_overdrawn(net: &[u32], b: Bounds, list: &[u32], count: usize) -> bool
     requires { ⌜ (20 ≤ length (now net)) × (count ≤ 20) × (40 ≤ length (now list)) ⌝ }
     ensures { λ r. ⌜ (r ≡ true → (want : Wanted) → Listed (good (now (net .entry)) want) b (now (list .entry)) count → NoneIn (good (now (net .entry)) want) b) ⌝ }
 {
-    let mut all = Wanted { ends: 0, least: 0 };
+    let mut all = Room { ends: 0, most: 0 };
     let n = pruning::size(net);
     let mut i: usize = 0;
     while i < n {
@@ -354,7 +360,7 @@ fn is_overdrawn(net: &[u32], b: Bounds, list: &[u32], count: usize) -> bool
         }
         i += 1;
     }
-    is_over(list, count, all.ends, all.least, b)
+    is_over(list, count, all.ends, all.most, b)
 }
 
 // ---- what to try next: hints, on which nothing relies

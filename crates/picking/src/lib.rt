@@ -103,7 +103,7 @@ fn first(net: &[u32], asked: Question, n: usize) -> Found
     requires { ⌜ (n ≤ 20) × (asked .rules ≤ 105) × (440 ≤ length (now net)) ⌝ }
     ensures { λ r. ⌜ Answered (λ c. holds (now (net .entry)) (asked .rules) n c && leb (asked .want .least) (heldOf n c (asked .want .ends))) n r ⌝ }
 {
-    net::first(&net[0..rules::RIVALS + 4 * asked.rules], asked.want, n)
+    net::first(&net[0..pruning::ENDS + 4 * asked.rules], asked.want, n)
 }
 
 // The first acceptable choice that has an end of the node, if one is named.
@@ -139,7 +139,7 @@ pub fn states(
 {
     let mut net = [0u32; rules::CELLS];
     let asked = prepare(t, table, offers, ends, n, held, node, &mut net);
-    net::states(&net[0..rules::RIVALS + 4 * asked.rules], asked.want, n)
+    net::states(&net[0..pruning::ENDS + 4 * asked.rules], asked.want, n)
 }
 
 // What pick answers of n ends, where `found` is what was looked for: row 13, or a choice.

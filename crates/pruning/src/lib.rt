@@ -79,7 +79,7 @@ pub fn has_least(c: u32, d: u32, lo: u32) -> bool
     lo <= held(c, d)
 }
 
-// Whether a set is one end alone.
+// Whether a set has one end at most.
 fn is_one(c: u32) -> bool
     ensures { λ r. ⌜ (r ≡ true → held 32 c c ≤ 1) ⌝ }
 {
@@ -237,7 +237,7 @@ fn fill(ends: u32, most: u32, b: Bounds) -> Bounds
     strike(without(ends, b.must), b)
 }
 
-// What a rule leaves between the bounds that every set meets.
+// What a rule leaves that every set between the bounds meets.
 fn hold(rule: Rule, b: Bounds) -> Bounds
     ensures { λ r. ⌜ Keeps (λ x. within (rule .lo) (rule .hi) (held 32 x (rule .only))) b r ⌝ }
 {
@@ -247,7 +247,7 @@ fn hold(rule: Rule, b: Bounds) -> Bounds
     raise(rule.only, rule.lo, fill(rule.only, rule.hi, b))
 }
 
-// What a rule leaves that some set may not meet: its ends go that would break it.
+// What a rule leaves that a set between the bounds may not meet: ends that would break it go.
 fn shut(rule: Rule, b: Bounds) -> Bounds
     ensures { λ r. ⌜ Keeps (obeys 32 rule) b r ⌝ }
 {

@@ -24,12 +24,6 @@ pub const MOST: usize = 105;
 // The cells of a net with as many rules, after the rivals of 20 ends.
 pub const CELLS: usize = 440;
 
-// Where the rules start: a cell for each end comes before.
-pub const RIVALS: usize = 20;
-
-// The upper bound of a rule that has none: no set has more ends.
-const ANY: u32 = 32;
-
 // ---- one row
 
 // The upper bound hi on the ends in `only`, or none where there are no more than hi of them.
@@ -37,7 +31,7 @@ fn bound(only: u32, hi: u32) -> u32
     ensures { λ r. ⌜ ((m when lo c : ℕ) → m ≤ 32 → obeys m (rule when only lo r) c ≡ obeys m (rule when only lo hi) c) ⌝ }
 {
     if pruning::held(only, only) <= hi {
-        return ANY;
+        return pruning::ALL;
     }
     hi
 }
@@ -49,7 +43,7 @@ fn is_idle(when: u32, only: u32, lo: u32, hi: u32) -> bool
     if when == 0 {
         return true;
     }
-    if hi < ANY {
+    if hi < pruning::ALL {
         return false;
     }
     if lo == 0 {
@@ -70,7 +64,7 @@ fn add(net: &mut [u32], k: usize, new: Rule) -> usize
     if is_idle(new.when, new.only, new.lo, most) {
         return k;
     }
-    let j = RIVALS + 4 * k;
+    let j = pruning::ENDS + 4 * k;
     net[j] = new.when;
     net[j + 1] = new.only;
     net[j + 2] = new.lo;
@@ -176,7 +170,7 @@ fn fork_rule(
         when: kin,
         only: own,
         lo: 1,
-        hi: ANY,
+        hi: pruning::ALL,
     }
 }
 

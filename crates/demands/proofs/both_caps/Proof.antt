@@ -22,7 +22,7 @@ add-t7 c = let q = c .before .before .before .before .before .before .if2 .left 
 
 returns-3 : tie.Need-returns-3
 returns-3 c = let a = c .before .before .before .before .before .before .before .before .before .before .args in
-    λ p b f g. caps-both p b (a .all .ends) (a .all .least) (a .rule .only) (a .rule .hi) f g
+    λ p b f g. caps-both p b (a .all .ends) (a .all .most) (a .rule .only) (a .rule .hi) f g
 
 pub both-caps-spec : {M : Type 1} → statement M
 both-caps-spec = tie.close (tie.spec meets-requires returns returns-2 add-t7 returns-3)

@@ -10,7 +10,7 @@ use Rattle.demands.proofs.is_overdrawn.Statement.{statement}
 use Rattle.demands.proofs.is_overdrawn.Tie as tie
 
 abbrev Inv-loop : tie.InvT-loop
-Inv-loop net b list count all₀ n i₀ all i = (i ≤ n) × ((want : Wanted) → Listed (good net want) b list count → Caps (good net want) b (all .ends) (all .least))
+Inv-loop net b list count all₀ n i₀ all i = (i ≤ n) × ((want : Wanted) → Listed (good net want) b list count → Caps (good net want) b (all .ends) (all .most))
 
 abbrev μ-loop : tie.MeasureT-loop
 μ-loop net b list count all₀ n i₀ all i = n - i
