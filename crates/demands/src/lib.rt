@@ -32,9 +32,9 @@ pub struct View {
 }
 
 // So many demands are listed at most, each in two cells: open ends, and how many of them are lacked.
-const MOST: usize = 20;
+const MOST: usize = 12;
 
-const CELLS: usize = 40;
+const CELLS: usize = 24;
 
 // Any end.
 const EVERY: u32 = 4294967295;
@@ -123,8 +123,8 @@ fn lack(want: Wanted, rule: Rule, b: Bounds) -> u32
 
 // One demand more on the list, if it is one and there is room.
 fn note(list: &mut [u32], count: usize, ends: u32, least: u32) -> usize
-    requires { ⌜ (count ≤ 20) × (40 ≤ length (now list)) ⌝ }
-    ensures { λ r. ⌜ (r ≤ 20) × ((passing : ℕ → Bool) (b : Bounds) → Listed passing b (now (list .entry)) count → Asks passing b ends least → Listed passing b (now (list .exit)) r) ⌝ }
+    requires { ⌜ (count ≤ 12) × (24 ≤ length (now list)) ⌝ }
+    ensures { λ r. ⌜ (r ≤ 12) × ((passing : ℕ → Bool) (b : Bounds) → Listed passing b (now (list .entry)) count → Asks passing b ends least → Listed passing b (now (list .exit)) r) ⌝ }
 {
     if least == 0 {
         return count;
@@ -141,8 +141,8 @@ fn note(list: &mut [u32], count: usize, ends: u32, least: u32) -> usize
 
 // What the rules that are set off lack.
 fn list_direct(net: &[u32], want: Wanted, b: Bounds, list: &mut [u32]) -> usize
-    requires { ⌜ (20 ≤ length (now net)) × (40 ≤ length (now list)) ⌝ }
-    ensures { λ r. ⌜ (r ≤ 20) × Listed (good (now (net .entry)) want) b (now (list .exit)) r ⌝ }
+    requires { ⌜ (20 ≤ length (now net)) × (24 ≤ length (now list)) ⌝ }
+    ensures { λ r. ⌜ (r ≤ 12) × Listed (good (now (net .entry)) want) b (now (list .exit)) r ⌝ }
 {
     let open = pruning::without(b.may, b.must);
     let n = pruning::size(net);
@@ -166,7 +166,7 @@ fn forces(ends: u32, least: u32, when: u32) -> bool
 
 // Whether some demand of the list can't be met but by one of these ends.
 fn rouses(list: &[u32], count: usize, when: u32) -> bool
-    requires { ⌜ (count ≤ 20) × (40 ≤ length (now list)) ⌝ }
+    requires { ⌜ (count ≤ 12) × (24 ≤ length (now list)) ⌝ }
     ensures { λ r. ⌜ (r ≡ true → Rouses (now (list .entry)) count when) ⌝ }
 {
     let mut i: usize = 0;
@@ -181,7 +181,7 @@ fn rouses(list: &[u32], count: usize, when: u32) -> bool
 
 // How many open ends of a rule are lacked that the list sets off.
 fn lack_roused(rule: Rule, b: Bounds, list: &[u32], count: usize) -> u32
-    requires { ⌜ (count ≤ 20) × (40 ≤ length (now list)) ⌝ }
+    requires { ⌜ (count ≤ 12) × (24 ≤ length (now list)) ⌝ }
     ensures { λ r. ⌜ ((passing : ℕ → Bool) (free : ℕ) → Obeying passing rule → Listed passing b (now (list .entry)) count → Without (b .may) (b .must) free → Asks passing b (bitAnd free (rule .only)) r) ⌝ }
 {
     if pruning::has_least(b.must, rule.only, rule.lo) {
@@ -199,8 +199,8 @@ fn lack_roused(rule: Rule, b: Bounds, list: &[u32], count: usize) -> u32
 
 // What the rules that the list sets off lack, from the last rule to the first: inner forks stand before outer ones, and the outer set off the inner.
 fn list_roused(net: &[u32], b: Bounds, list: &mut [u32], from: usize) -> usize
-    requires { ⌜ (20 ≤ length (now net)) × (40 ≤ length (now list)) × (from ≤ 20) ⌝ }
-    ensures { λ r. ⌜ (r ≤ 20) × ((want : Wanted) → Listed (good (now (net .entry)) want) b (now (list .entry)) from → Listed (good (now (net .entry)) want) b (now (list .exit)) r) ⌝ }
+    requires { ⌜ (20 ≤ length (now net)) × (24 ≤ length (now list)) × (from ≤ 12) ⌝ }
+    ensures { λ r. ⌜ (r ≤ 12) × ((want : Wanted) → Listed (good (now (net .entry)) want) b (now (list .entry)) from → Listed (good (now (net .entry)) want) b (now (list .exit)) r) ⌝ }
 {
     let open = pruning::without(b.may, b.must);
     let mut count = from;
@@ -216,8 +216,8 @@ fn list_roused(net: &[u32], b: Bounds, list: &mut [u32], from: usize) -> usize
 
 // All that is asked of the open ends.
 fn list_all(net: &[u32], want: Wanted, b: Bounds, list: &mut [u32]) -> usize
-    requires { ⌜ (20 ≤ length (now net)) × (40 ≤ length (now list)) ⌝ }
-    ensures { λ r. ⌜ (r ≤ 20) × Listed (good (now (net .entry)) want) b (now (list .exit)) r ⌝ }
+    requires { ⌜ (20 ≤ length (now net)) × (24 ≤ length (now list)) ⌝ }
+    ensures { λ r. ⌜ (r ≤ 12) × Listed (good (now (net .entry)) want) b (now (list .exit)) r ⌝ }
 {
     let direct = list_direct(net, want, b, list);
     let open = pruning::without(b.may, b.must);
@@ -265,7 +265,7 @@ fn share(ends: u32, least: u32, of: u32) -> Wanted
 
 // What is asked for of these ends in all, the last demands first: those of pins come after those of forks.
 fn asked_of(list: &[u32], count: usize, of: u32) -> Wanted
-    requires { ⌜ (count ≤ 20) × (40 ≤ length (now list)) ⌝ }
+    requires { ⌜ (count ≤ 12) × (24 ≤ length (now list)) ⌝ }
     ensures { λ r. ⌜ ((passing : ℕ → Bool) (b : Bounds) → Listed passing b (now (list .entry)) count → Asks passing b (r .ends) (r .least)) × Part (r .ends) of ⌝ }
 {
     let mut all = Wanted { ends: 0, least: 0 };
@@ -280,7 +280,7 @@ fn asked_of(list: &[u32], count: usize, of: u32) -> Wanted
 
 // More is asked for than goes together.
 fn is_crowded(net: &[u32], list: &[u32], count: usize) -> bool
-    requires { ⌜ (20 ≤ length (now net)) × (count ≤ 20) × (40 ≤ length (now list)) ⌝ }
+    requires { ⌜ (20 ≤ length (now net)) × (count ≤ 12) × (24 ≤ length (now list)) ⌝ }
     ensures { λ r. ⌜ (r ≡ true → (want : Wanted) (b : Bounds) → Listed (good (now (net .entry)) want) b (now (list .entry)) count → NoneIn (good (now (net .entry)) want) b) ⌝ }
 {
     let all = asked_of(list, count, EVERY);
@@ -293,7 +293,7 @@ fn is_crowded(net: &[u32], list: &[u32], count: usize) -> bool
 
 // More is asked for of these ends than so many.
 fn is_over(list: &[u32], count: usize, ends: u32, most: u32, b: Bounds) -> bool
-    requires { ⌜ (count ≤ 20) × (40 ≤ length (now list)) ⌝ }
+    requires { ⌜ (count ≤ 12) × (24 ≤ length (now list)) ⌝ }
     ensures { λ r. ⌜ (r ≡ true → (passing : ℕ → Bool) → Listed passing b (now (list .entry)) count → Caps passing b ends most → NoneIn passing b) ⌝ }
 {
     let may = pruning::held(b.may, ends);
@@ -310,7 +310,7 @@ fn is_over(list: &[u32], count: usize, ends: u32, most: u32, b: Bounds) -> bool
 
 // Whether a rule bounds every set between the bounds from above: it does where its own ends set it off, or it is set off.
 fn is_cap(rule: Rule, b: Bounds, list: &[u32], count: usize) -> bool
-    requires { ⌜ (count ≤ 20) × (40 ≤ length (now list)) ⌝ }
+    requires { ⌜ (count ≤ 12) × (24 ≤ length (now list)) ⌝ }
     ensures { λ r. ⌜ (r ≡ true → (passing : ℕ → Bool) → Obeying passing rule → Listed passing b (now (list .entry)) count → Caps passing b (rule .only) (rule .hi)) ⌝ }
 {
     if pruning::ALL <= rule.hi {
@@ -344,7 +344,7 @@ fn both_caps(all: Room, rule: Rule) -> Room
 
 // More is asked for than some rule has room for, or than all rules have that bound different ends.
 fn is_overdrawn(net: &[u32], b: Bounds, list: &[u32], count: usize) -> bool
-    requires { ⌜ (20 ≤ length (now net)) × (count ≤ 20) × (40 ≤ length (now list)) ⌝ }
+    requires { ⌜ (20 ≤ length (now net)) × (count ≤ 12) × (24 ≤ length (now list)) ⌝ }
     ensures { λ r. ⌜ (r ≡ true → (want : Wanted) → Listed (good (now (net .entry)) want) b (now (list .entry)) count → NoneIn (good (now (net .entry)) want) b) ⌝ }
 {
     let mut all = Room { ends: 0, most: 0 };
@@ -391,7 +391,7 @@ fn harder(c: Wanted, d: Wanted, blame: u32) -> Wanted {
 
 // The hardest demand; none, if none is listed.
 fn hardest(list: &[u32], count: usize, blame: u32) -> Wanted
-    requires { ⌜ (count ≤ 20) × (40 ≤ length (now list)) ⌝ }
+    requires { ⌜ (count ≤ 12) × (24 ≤ length (now list)) ⌝ }
 {
     let mut hard = Wanted { ends: 0, least: 0 };
     let mut i: usize = 0;

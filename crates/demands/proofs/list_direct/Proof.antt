@@ -12,7 +12,7 @@ use Rattle.demands.proofs.list_direct.Statement.{statement}
 use Rattle.demands.proofs.list_direct.Tie as tie
 
 abbrev Inv-loop : tie.InvT-loop
-Inv-loop net want b list₀ «open» n count₀ i₀ list count i = (i ≤ n) × (count ≤ 20) × (length list ≡ length list₀) × Listed (good net want) b list count
+Inv-loop net want b list₀ «open» n count₀ i₀ list count i = (i ≤ n) × (count ≤ 12) × (length list ≡ length list₀) × Listed (good net want) b list count
 
 abbrev μ-loop : tie.MeasureT-loop
 μ-loop net want b list₀ «open» n count₀ i₀ list count i = n - i

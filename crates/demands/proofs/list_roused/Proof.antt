@@ -12,7 +12,7 @@ use Rattle.demands.proofs.list_roused.Statement.{statement}
 use Rattle.demands.proofs.list_roused.Tie as tie
 
 abbrev Inv-loop : tie.InvT-loop
-Inv-loop net b list₀ from «open» count₀ i₀ list count i = (i ≤ size net) × (count ≤ 20) × (length list ≡ length list₀) × ((want : Wanted) → Listed (good net want) b list₀ from → Listed (good net want) b list count)
+Inv-loop net b list₀ from «open» count₀ i₀ list count i = (i ≤ size net) × (count ≤ 12) × (length list ≡ length list₀) × ((want : Wanted) → Listed (good net want) b list₀ from → Listed (good net want) b list count)
 
 abbrev μ-loop : tie.MeasureT-loop
 μ-loop net b list₀ from «open» count₀ i₀ list count i = i
