@@ -58,6 +58,7 @@ module _ {t b g : List ℕ} {o : Offers} {x : Held} {s : Seats} {n : ℕ} (l : L
 
   pub laid-told : Told t (l .on .current) (x .runs) (x .kept)
   laid-told = record {
+    table-fine = board-good t b g (l .on) (l .is-board) .table-fine;
     running = l .holding .nodes-held .running;
     stocks = λ k m a. l .holding .nodes-held .stocks k m a .many;
   }

@@ -4,18 +4,16 @@ use mathlib.Core.Path.{_≡_, refl, sym, subst, _∙_}
 use mathlib.Core.Bool.{Bool, true, false, cond}
 use mathlib.Core.List.{List, [], _∷_}
 use native.Mathlib.Omega.{arith}
-use lib.Dec.{eqb, ltb}
+use lib.Dec.{eqb}
 use lib.ListN.{length, set}
 use borrow.Author.Tests.{le-leb, ne-eqb}
 use Rattle.paper.specs.Lists.{at}
 use Rattle.paper.specs.Table.{nodes, edges, kind, source, isObjectNode}
-use Rattle.paper.specs.Marking.{Marking, Good, counted, stockOf}
+use Rattle.paper.specs.Marking.{Marking, Good, counted}
 use Rattle.paper.specs.Offers.{firsts}
-use Rattle.paper.proofs.Bools.{and-never}
 use Rattle.paper.proofs.Bytes.{four-back}
 use Rattle.paper.proofs.Lengths.{drop-four}
 use Rattle.paper.proofs.Cursor.{wordAt}
-use Rattle.paper.proofs.OneMarking.{good-elsewhere}
 use Rattle.marking.specs.Values.{ValuesNoted}
 use Rattle.holding.specs.Holding.{NodesHeld, EdgesHeld}
 use Rattle.holding.proofs.HoldingLaws.{set-more}
@@ -69,18 +67,16 @@ module _ (t b from kept tokens codes values runs : List ℕ) (m : Marking) (ok :
     from-stock c o = by (m .stock (source t e)) refl
       where
         by : (vs : List ℕ) → m .stock (source t e) ≡ vs → Starts
-        by [] z = let n = h .stocks (source t e) s o in rw (c, z, g .codes-are e l ∙ code-stocked t kept tokens e c o, n .many, z)
+        by [] z = let n = h .stocks (source t e) s o in rw (c, o, z, g .codes-are e l ∙ code-stocked t kept tokens e c o, n .many, z)
         by (v ∷ vs) z =
             let n = h .stocks (source t e) s o in
             let small : v < 2 ^ 32 = rw z at (ok .values (source t e) 0) in
             let w = oldest-is b v vs (at from (source t e)) (at kept (source t e)) small (subst (λ (xs : List ℕ). ValuesNoted b xs (at from (source t e)) (at kept (source t e))) z n) in
-            rw (c, z, g .codes-are e l ∙ code-stocked t kept tokens e c o, n .many, z, g .values-are e l (w .0) ∙ w .1, ne-eqb (length (v ∷ vs)) 0 (λ x. omega (arith, x)))
+            rw (c, o, z, g .codes-are e l ∙ code-stocked t kept tokens e c o, n .many, z, g .values-are e l (w .0) ∙ w .1, ne-eqb (length (v ∷ vs)) 0 (λ x. omega (arith, x)))
 
     from-none : counted t e ≡ false → isObjectNode (kind t (source t e)) ≡ false → Starts
     unfolding firsts
-    from-none c o =
-        let z : m .stock (source t e) ≡ [] = sym (good-elsewhere t m ok (stockOf (source t e)) (rw o (and-never (ltb (source t e) (nodes t))))) in
-        rw (c, z, g .codes-are e l ∙ code-neither t kept tokens e c o)
+    from-none c o = rw (c, o, g .codes-are e l ∙ code-neither t kept tokens e c o)
 
     pub starts-are : Starts
     starts-are = by (counted t e) refl (isObjectNode (kind t (source t e))) refl

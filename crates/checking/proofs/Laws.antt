@@ -19,21 +19,21 @@ unfolding tableRead tableFine
 row-1 t f = sym (rw f)
 
 module _ (t : List ℕ) (frame : frameFine t limits ≡ true) where
-  pub row-2 : (i : ℕ) → lowest (λ k. not (nodeFine t k)) (nodes t) ≡ some i → refused 2 i ≡ tableRead t
+  pub row-2 : (i : ℕ) → lowest (λ k. not (nodeFine t limits k)) (nodes t) ≡ some i → refused 2 i ≡ tableRead t
   unfolding tableRead tableFine
   row-2 i n = sym (rw (frame, n))
 
-  module _ (nodes-pass : lowest (λ k. not (nodeFine t k)) (nodes t) ≡ none) where
+  module _ (nodes-pass : lowest (λ k. not (nodeFine t limits k)) (nodes t) ≡ none) where
     pub row-3 : (j : ℕ) → lowest (λ k. not (edgeFine t k)) (edges t) ≡ some j → refused 3 j ≡ tableRead t
     unfolding tableRead tableFine
     row-3 j e = sym (rw (frame, nodes-pass, e))
 
     module _ (edges-pass : lowest (λ k. not (edgeFine t k)) (edges t) ≡ none) where
-      pub row-4 : (i : ℕ) → lowest (λ k. not (shapeFine t k)) (nodes t) ≡ some i → refused 4 i ≡ tableRead t
+      pub row-4 : (i : ℕ) → lowest (λ k. not (shapeFine t limits k)) (nodes t) ≡ some i → refused 4 i ≡ tableRead t
       unfolding tableRead tableFine
       row-4 i s = sym (rw (frame, nodes-pass, edges-pass, s))
 
-      pub no-row : lowest (λ k. not (shapeFine t k)) (nodes t) ≡ none → good (countsOf t) ≡ tableRead t
+      pub no-row : lowest (λ k. not (shapeFine t limits k)) (nodes t) ≡ none → good (countsOf t) ≡ tableRead t
       unfolding tableRead tableFine
       no-row s = sym (rw (frame, nodes-pass, edges-pass, s))
 

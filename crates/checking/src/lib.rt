@@ -1,5 +1,5 @@
 // Reading a table: rows 1 to 4 of the paper's table of refusals.
-// Assumes nothing. Functions that read fields require that the bytes span the counts (`Spans`), which `read` makes sure of first.
+// `read` assumes nothing. Functions that read fields require that the bytes span the counts (`Spans`), which it makes sure of first.
 use shape::bad_shape;
 use table::Found;
 use table::Table;
@@ -108,7 +108,7 @@ fn lower_fine(k: usize, l: usize, u: usize) -> bool
 // Row 2 at node i.
 fn node_fine(s: &[u8], table: Table, i: usize) -> bool
     requires { ⌜ Spans (now s) table × (i < table .nodes) ⌝ }
-    ensures { λ r. ⌜ r ≡ nodeFine (now (s .entry)) i ⌝ }
+    ensures { λ r. ⌜ r ≡ nodeFine (now (s .entry)) limits i ⌝ }
 {
     let k = table.kind(s, i);
     if !within(Table::INITIAL, Table::ACTIVITY_FINAL, k) {
@@ -153,7 +153,7 @@ fn edge_fine(s: &[u8], table: Table, j: usize) -> bool
 // The lowest node that row 2 refuses.
 fn bad_node(s: &[u8], table: Table) -> Found
     requires { ⌜ Spans (now s) table ⌝ }
-    ensures { λ r. ⌜ found r ≡ lowest (λ i. not (nodeFine (now (s .entry)) i)) (nodes (now (s .entry))) ⌝ }
+    ensures { λ r. ⌜ found r ≡ lowest (λ i. not (nodeFine (now (s .entry)) limits i)) (nodes (now (s .entry))) ⌝ }
 {
     let n = table.nodes;
     let mut i: usize = 0;

@@ -1,5 +1,5 @@
 // A choice is a set of ends, written as rising one-byte numbers; in code it is a mask.
-// Assumes no more than that there are at most 20 ends.
+// Assumes no more than its `requires`: at most 20 ends, and room for what is written.
 ghost use mathlib.Core.Path.{_≡_};
 ghost use mathlib.Core.List.{_++_};
 ghost use Prim.Native.Nat.{_≤_, _<_};

@@ -4,6 +4,7 @@ use Prim.Native.Nat.{ℕ, _<_}
 use mathlib.Core.Bool.{false}
 use mathlib.Core.List.{List}
 use Rattle.paper.specs.Answers.{good}
+use Rattle.paper.specs.Limits.{limits}
 use Rattle.paper.specs.Table.{edges, source, chain}
 use Rattle.paper.proofs.Tables.{source-no-chain}
 use Rattle.table.specs.declared.Table.{Table}
@@ -19,5 +20,5 @@ module _ (t : List ℕ) {x : Table} (h : tableRead t ≡ good x) where
     targets = λ j l. read-good t h .edge j l .target-fits;
   }
 
-  pub good-flat : (j : ℕ) → j < edges t → chain t 15 (source t j) ≡ false
+  pub good-flat : (j : ℕ) → j < edges t → chain t (limits .chainTooLong) (source t j) ≡ false
   good-flat = source-no-chain (read-good t h)

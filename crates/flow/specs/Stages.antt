@@ -1,6 +1,6 @@
 -- The offers of all edges, edge by edge in order of rank. Assumes nothing.
 use mathlib.Core.Path.{_≡_}
-use Prim.Native.Nat.{ℕ, _≤_, _<_}
+use Prim.Native.Nat.{ℕ, suc, _≤_, _<_}
 use mathlib.Core.Bool.{Bool, true, false, _&&_, _||_}
 use mathlib.Core.List.{List, [], _++_}
 use lib.Dec.{eqb, ltb}
@@ -23,8 +23,8 @@ onEdge t g m = offersOn t (goesOver g) m (limits .longestPath)
 -- the longest chain of control nodes that ends at node i has `rk i` of them, or k or more where that is k
 pub record Upto (t rk : List ℕ) (k i : ℕ) : Type 0 where
   pub small : getD rk i 0 ≤ k
-  pub reached : (j : ℕ) → j < getD rk i 0 → chain t j i ≡ true
-  pub over : getD rk i 0 < k → chain t (getD rk i 0) i ≡ false
+  pub reached : (j : ℕ) → j ≤ getD rk i 0 → chain t j i ≡ true
+  pub over : getD rk i 0 < k → chain t (suc (getD rk i 0)) i ≡ false
 
 -- the rank of an edge's source
 abbrev pub rankOf : List ℕ → List ℕ → ℕ → ℕ
@@ -60,7 +60,7 @@ pub record Sized (t : List ℕ) (x : Table) (g st ol : List ℕ) : Type 0 where
 
 -- no chain of 16 control nodes ends at an edge's source, and the first offers are those of the marking
 pub record Input (t : List ℕ) (m : Marking) (st ol : List ℕ) : Type 0 where
-  pub flat : (j : ℕ) → j < edges t → chain t 15 (source t j) ≡ false
+  pub flat : (j : ℕ) → j < edges t → chain t (limits .chainTooLong) (source t j) ≡ false
   pub starts : (e : ℕ) → e < edges t → isControlNode (kind t (source t e)) ≡ false → firsts t m e ≡ startOf e (getD st e 0) (getD ol e 0)
 
 -- ranks rise along edges into control nodes, and are below c

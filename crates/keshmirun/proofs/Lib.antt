@@ -3,3 +3,4 @@ pub mod Ladders
 pub mod Laying
 pub mod Requests
 pub mod PickSteps
+pub mod Exports

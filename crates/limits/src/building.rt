@@ -1,5 +1,5 @@
 // The tables of the cases, and a marking, put together in lent bytes. Each builder says which case it serves and answers how many bytes it wrote.
-// Assumes nothing. All edges are control edges with no guard, and no node is a pin.
+// Assumes no more than its `requires`. All edges are control edges with no guard, and no node is a pin.
 ghost use mathlib.Core.Path.{_≡_};
 ghost use Prim.Native.Nat.{_+_, _*_, _≤_};
 ghost use lib.ListN.{length};

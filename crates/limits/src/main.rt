@@ -1,5 +1,5 @@
 // Tries the paper's limits, each on both sides, and prints a line a case: how many of what are tried, then the refusal and its place, and of a reply what it says.
-// Assumes nothing. The tables and the markings are made here; the file `stdout` has what the paper says of each case.
+// Assumes no more than its `requires`. The tables and the markings are made here; the file `stdout` has what the paper says of each case.
 ghost use mathlib.Core.Path.{_≡_};
 ghost use mathlib.Core.Bool.{true};
 ghost use Prim.Native.Nat.{_+_, _*_, _%_, _≤_};

@@ -20,6 +20,7 @@ use Rattle.paper.proofs.Counts.{all-append, all-gather}
 use Rattle.paper.proofs.Fields.{fields-append, node-once, node-only, not-both}
 use Rattle.paper.proofs.Bools.{never, and-true}
 use Rattle.paper.proofs.Lists.{below-more, below-split}
+use Rattle.paper.specs.Limits.{limits}
 use Rattle.paper.proofs.Tables.{NodeFields}
 use Rattle.paper.proofs.Bytes.{Bytes, never-some, same-read, went-on}
 use Rattle.paper.proofs.Cursor.{byte-at, byte-none}
@@ -210,7 +211,7 @@ module _ (t : List ℕ) (m : Marking) where
     pin-idle x e h = rw (i, zero-of (m .runs (owner t p)) x e h)
 
     -- a pin's action is one
-    pub pin-owner : NodeFields t p → (owner t p < nodes t) × (isAction (kind t (owner t p)) ≡ true)
+    pub pin-owner : NodeFields t limits p → (owner t p < nodes t) × (isAction (kind t (owner t p)) ≡ true)
     pin-owner f =
         let r = and-true (ltb (owner t p) (nodes t)) _ (rw (pins i) at (f .owner-fine)) in
         (ltb-true _ _ (r .0), r .1)

@@ -1,4 +1,4 @@
-// The step: what a marking becomes when the ends of a choice are taken. The marking is described by lent slices, as `marking::write` wants them, and
+// The step: what a marking becomes when the ends of a choice are taken. The marking is described by lent slices, as `writing::reply` wants them, and
 // is changed there: first offers are spent, destinations gain, and an end at an activity final ends it.
 // Functions that read a table's fields require that its bytes were read as a table.
 use table::Table;

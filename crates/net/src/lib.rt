@@ -1,5 +1,5 @@
 // The first set of ends that passes a net of rules. The search recurses on the number of ends still open, first choice first, and knows nothing but
-// the net and the ends that are wanted. What makes it fast is pruning, and scouting. Assumes nothing.
+// the net and the ends that are wanted. What makes it fast is pruning, and scouting. Assumes no more than its `requires`.
 use pruning::Bounds;
 use pruning::Wanted;
 use scouting::Hint;

@@ -1,5 +1,5 @@
 // Numbers in decimal, and lists of them, written into a lent slice. Each function answers the place behind what it wrote.
-// Assumes nothing. Every function asks for the room that it needs.
+// Assumes no more than its `requires`: every function asks for the room that it needs.
 ghost use mathlib.Core.List.{_∷_};
 ghost use Prim.Native.Nat.{_+_, _*_, _≤_, _<_};
 ghost use lib.ListN.{length, take, drop};

@@ -1,5 +1,4 @@
--- Rule 3 for an action: the definition asks all incoming edges, the paper "each incoming control edge"; no other edge enters an action, so it is
--- the same. Assumes nothing.
+-- Rule 3 for an action asks "each incoming control edge"; no other edge enters an action, so code may ask every incoming edge. Assumes nothing.
 use mathlib.Core.Path.{_≡_, refl, ap, subst, _∙_}
 use Prim.Native.Nat.{ℕ}
 use mathlib.Core.Bool.{Bool, true, false, not, _&&_}
@@ -35,11 +34,11 @@ module _ (t : List ℕ) (fine : tableFine t limits ≡ good tt) (a : ℕ) (act :
       iff _ _ (λ h. in-all p (keep (isControl t) (into t a)) (λ e k. all-in p h (in-keep (isControl t) (into t a) k .0)))
       (λ h. in-all p (into t a) (λ e k. all-in p h (keep-in (isControl t) k (enters-control k))))
 
--- "exactly one taken end on each incoming control edge"
-pub agrees-control : (d : Board) (c a : ℕ) → tableFine (d .table) limits ≡ good tt → isAction (kind (d .table) a) ≡ true
+-- "exactly one taken end on each incoming control edge": no other edge enters an action, so every incoming edge may be asked
+pub agrees-every-edge : (d : Board) (c a : ℕ) → tableFine (d .table) limits ≡ good tt → isAction (kind (d .table) a) ≡ true
     → actionAgrees d c a
     ≡ not (d .current .runs a)
-    && all (λ e. eqb (count (λ o. eqb (lastEdge o) e) (takenEnds d c)) 1) (keep (isControl (d .table)) (into (d .table) a))
+    && all (λ e. eqb (count (λ o. eqb (lastEdge o) e) (takenEnds d c)) 1) (into (d .table) a)
     && all (λ p. within (lower (d .table) p) (upper (d .table) p) (length (arrivals d c p))) (inputs (d .table) a)
 unfolding actionAgrees
-agrees-control d c a fine act = rw (all-control (d .table) fine a act (λ e. eqb (count (λ o. eqb (lastEdge o) e) (takenEnds d c)) 1))
+agrees-every-edge d c a fine act = rw (all-control (d .table) fine a act (λ e. eqb (count (λ o. eqb (lastEdge o) e) (takenEnds d c)) 1))

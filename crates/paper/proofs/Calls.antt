@@ -43,29 +43,7 @@ leaves-unique one w v before x y h i =
 only-one : (c : Answer (List ℕ)) → OneAllowed (Only c)
 only-one c a b h i = h ∙ sym i
 
--- ---- of the six operations
-abbrev pub OneCall : (Answer (List ℕ) → Type 0) → Type 0
-OneCall Allowed = (w v : ℕ) (before x y : List ℕ) → Leaves Allowed w before x → Leaves Allowed v before y → (w ≡ v) × (x ≡ y)
-
-pub check-unique : (t : List ℕ) → OneCall (Only (check t))
-check-unique t = leaves-unique (only-one (check t))
-
-pub start-unique : (t b : List ℕ) → OneCall (Only (start t b))
-start-unique t b = leaves-unique (only-one (start t b))
-
-pub sheet-unique : (t b g : List ℕ) → OneCall (Only (sheet t b g))
-sheet-unique t b g = leaves-unique (only-one (sheet t b g))
-
-pub pick-call-unique : (t b g : List ℕ) (n : ℕ) → OneCall (Pick t b g n)
-pick-call-unique t b g n = leaves-unique (pick-unique t b g n)
-
-pub step-unique : (t b g ks : List ℕ) → OneCall (Only (step t b g ks))
-step-unique t b g ks = leaves-unique (only-one (step t b g ks))
-
-pub finish-unique : (t b : List ℕ) (a : ℕ) (vs : List ℕ) → OneCall (Only (finish t b a vs))
-finish-unique t b a vs = leaves-unique (only-one (finish t b a vs))
-
--- ---- the same bytes get the same answer: of any call, with the bytes and the number that it is lent
+-- ---- any call, with the bytes and the number that it is lent
 pub data Call : Type 0 where
   checks : (t : List ℕ) → Call
   starts : (t b : List ℕ) → Call
@@ -74,7 +52,7 @@ pub data Call : Type 0 where
   steps : (t b g ks : List ℕ) → Call
   finishes : (t b : List ℕ) (a : ℕ) (vs : List ℕ) → Call
 
--- what its operation's definition allows
+-- what its operation's definition allows: what the exported function promises is `Leaves (AllowedBy ..)`
 abbrev pub AllowedBy : Call → Answer (List ℕ) → Type 0
 AllowedBy (checks t) = Only (check t)
 AllowedBy (starts t b) = Only (start t b)
@@ -83,13 +61,39 @@ AllowedBy (picks t b g n) = Pick t b g n
 AllowedBy (steps t b g ks) = Only (step t b g ks)
 AllowedBy (finishes t b a vs) = Only (finish t b a vs)
 
+-- it is one answer
+pub one-allowed : (c : Call) → OneAllowed (AllowedBy c)
+one-allowed (checks t) = only-one (check t)
+one-allowed (starts t b) = only-one (start t b)
+one-allowed (sheets t b g) = only-one (sheet t b g)
+one-allowed (picks t b g n) = pick-unique t b g n
+one-allowed (steps t b g ks) = only-one (step t b g ks)
+one-allowed (finishes t b a vs) = only-one (finish t b a vs)
+
+-- ---- so two calls that lend the same leave the same (whatever they lend: `SameAnswer`)
+abbrev pub OneCall : (Answer (List ℕ) → Type 0) → Type 0
+OneCall Allowed = (w v : ℕ) (before x y : List ℕ) → Leaves Allowed w before x → Leaves Allowed v before y → (w ≡ v) × (x ≡ y)
+
 pub same-answer : (c : Call) → OneCall (AllowedBy c)
-same-answer (checks t) = check-unique t
-same-answer (starts t b) = start-unique t b
-same-answer (sheets t b g) = sheet-unique t b g
-same-answer (picks t b g n) = pick-call-unique t b g n
-same-answer (steps t b g ks) = step-unique t b g ks
-same-answer (finishes t b a vs) = finish-unique t b a vs
+same-answer c = leaves-unique (one-allowed c)
+
+pub check-unique : (t : List ℕ) → OneCall (Only (check t))
+check-unique t = same-answer (checks t)
+
+pub start-unique : (t b : List ℕ) → OneCall (Only (start t b))
+start-unique t b = same-answer (starts t b)
+
+pub sheet-unique : (t b g : List ℕ) → OneCall (Only (sheet t b g))
+sheet-unique t b g = same-answer (sheets t b g)
+
+pub pick-call-unique : (t b g : List ℕ) (n : ℕ) → OneCall (Pick t b g n)
+pick-call-unique t b g n = same-answer (picks t b g n)
+
+pub step-unique : (t b g ks : List ℕ) → OneCall (Only (step t b g ks))
+step-unique t b g ks = same-answer (steps t b g ks)
+
+pub finish-unique : (t b : List ℕ) (a : ℕ) (vs : List ℕ) → OneCall (Only (finish t b a vs))
+finish-unique t b a vs = same-answer (finishes t b a vs)
 
 -- ---- the length in a word lies within the room that was lent
 fitted : (k : Bool) (b before after : List ℕ) (w : ℕ) → leb (length b) (length before) ≡ k → Reply (cond k (good b) (refused 17 0)) w before after → w % 4294967296 ≤ length before

@@ -1,7 +1,7 @@
 -- "Two offers compete": as one equation, symmetric, and no offer competes with itself. Assumes nothing.
 use mathlib.Core.Path.{_≡_, refl, sym, ap, _∙_}
-use Prim.Native.Nat.{ℕ, zero, suc, _-_, _<_}
-use mathlib.Core.Bool.{Bool, true, false, not, _&&_, _||_}
+use Prim.Native.Nat.{ℕ, zero, suc, _<_}
+use mathlib.Core.Bool.{Bool, true, false, not, _&&_, _||_, and-comm}
 use mathlib.Core.Logic.{⊎-elim}
 use mathlib.Core.List.{List, _∷_, _++_}
 use mathlib.Core.Option.{Option}
@@ -29,31 +29,58 @@ share-sym os ps = iff _ _ (turned os ps) (turned ps os)
     turned os ps h = let r = any-in (λ o. elem o ps) os h in in-any (λ o. elem o os) (elem-in ps (r .2)) (in-elem (r .1))
 
 module _ (t : List ℕ) where
-  -- made at the same node, and that an object node, or a decision or join of an offer in common
-  pub clash-one : (o p : Offer)
-      → clash t o p ≡ eqb (madeAt t o) (madeAt t p) && (isObjectNode (kind t (madeAt t o)) || ((isDecision (kind t (madeAt t o)) || isJoin (kind t (madeAt t o))) && share (origins o) (origins p)))
+  -- made at the same node, both the first offers of an object node, or at a decision or join of an offer in common
+  abbrev alike : Offer → Offer → Bool
+  alike o p =
+      (isFirst o && isFirst p && isObjectNode (kind t (madeAt t o)))
+      || ((isDecision (kind t (madeAt t o)) || isJoin (kind t (madeAt t o))) && share (origins o) (origins p))
+
+  clash-alike : (o p : Offer) → clash t o p ≡ eqb (madeAt t o) (madeAt t p) && alike o p
   unfolding clash ofOneStock ofOneDecision ofOneJoin
-  clash-one o p =
-      by (eqb (madeAt t o) (madeAt t p)) (isObjectNode (kind t (madeAt t o))) (isDecision (kind t (madeAt t o))) (isJoin (kind t (madeAt t o))) (share (origins o) (origins p))
+  clash-alike o p =
+      by (isFirst o) (isFirst p) (eqb (madeAt t o) (madeAt t p)) (isObjectNode (kind t (madeAt t o))) (isDecision (kind t (madeAt t o))) (isJoin (kind t (madeAt t o))) (share (origins o) (origins p))
     where
-      by : (e s d j h : Bool) → e && s || e && d && h || e && j && h ≡ e && (s || ((d || j) && h))
-      by true true d j h = refl
-      by true false true true true = refl
-      by true false true true false = refl
-      by true false true false true = refl
-      by true false true false false = refl
-      by true false false j h = refl
-      by false s d j h = refl
+      node : (d j h : Bool) → d && h || j && h ≡ (d || j) && h
+      node true j true = refl
+      node true true false = refl
+      node true false false = refl
+      node false j h = refl
+
+      rest : (e d j h : Bool) → e && d && h || e && j && h ≡ e && ((d || j) && h)
+      rest true d j h = node d j h
+      rest false d j h = refl
+
+      by : (f g e s d j h : Bool) → f && g && e && s || e && d && h || e && j && h ≡ e && ((f && g && s) || ((d || j) && h))
+      by true true true true d j h = refl
+      by true true true false d j h = node d j h
+      by true true false s d j h = refl
+      by true false e s d j h = rest e d j h
+      by false g e s d j h = rest e d j h
+
+  -- the offer was made at an object node only as a first offer: so are all makers (`stock-firsts`)
+  abbrev pub StockFirst : Offer → Type 0
+  StockFirst o = isObjectNode (kind t (madeAt t o)) ≡ true → isFirst o ≡ true
+
+  -- so whether two offers clash, the node where they were made tells, and whether they were made of an offer in common
+  pub clash-one : (o p : Offer) → StockFirst o → StockFirst p
+      → clash t o p ≡ eqb (madeAt t o) (madeAt t p) && (isObjectNode (kind t (madeAt t o)) || ((isDecision (kind t (madeAt t o)) || isJoin (kind t (madeAt t o))) && share (origins o) (origins p)))
+  clash-one o p f g = clash-alike o p ∙ by (eqb (madeAt t o) (madeAt t p)) refl (isObjectNode (kind t (madeAt t o))) refl
+    where
+      by : (e : Bool) → eqb (madeAt t o) (madeAt t p) ≡ e → (s : Bool) → isObjectNode (kind t (madeAt t o)) ≡ s
+          → e && ((isFirst o && isFirst p && s) || ((isDecision (kind t (madeAt t o)) || isJoin (kind t (madeAt t o))) && share (origins o) (origins p)))
+          ≡ e && (s || ((isDecision (kind t (madeAt t o)) || isJoin (kind t (madeAt t o))) && share (origins o) (origins p)))
+      by false q s r = refl
+      by true q true r = let z : madeAt t o ≡ madeAt t p = eqb-true _ _ q in rw (f r, g (rw z at r))
+      by true q false r = rw (mathlib.Core.Bool.and-false (isFirst o && isFirst p))
 
   pub clash-at : (o p : Offer) → clash t o p ≡ true → madeAt t o ≡ madeAt t p
-  clash-at o p h = eqb-true _ _ (and-true (eqb (madeAt t o) (madeAt t p)) _ (sym (clash-one o p) ∙ h) .0)
+  clash-at o p h = eqb-true _ _ (and-true (eqb (madeAt t o) (madeAt t p)) _ (sym (clash-alike o p) ∙ h) .0)
 
   turned : (o p : Offer) → clash t o p ≡ true → clash t p o ≡ true
   turned o p h =
       let e = clash-at o p h in
-      let r : isObjectNode (kind t (madeAt t o)) || ((isDecision (kind t (madeAt t o)) || isJoin (kind t (madeAt t o))) && share (origins o) (origins p)) ≡ true
-      = and-true (eqb (madeAt t o) (madeAt t p)) _ (sym (clash-one o p) ∙ h) .1 in
-      clash-one p o ∙ and-both _ _ (eq-eqb _ _ (sym e)) (rw (share-sym (origins p) (origins o), sym e) r)
+      let r : alike o p ≡ true = and-true (eqb (madeAt t o) (madeAt t p)) _ (sym (clash-alike o p) ∙ h) .1 in
+      clash-alike p o ∙ and-both _ _ (eq-eqb _ _ (sym e)) (rw (share-sym (origins p) (origins o), sym e, and-comm (isFirst p) (isFirst o)) r)
 
   pub clash-sym : (o p : Offer) → clash t o p ≡ clash t p o
   clash-sym o p = iff _ _ (turned o p) (turned p o)
@@ -105,8 +132,12 @@ makers-parts (with o p) k =
     ⊎-elim (λ l. let r = makers-parts o l in (r .0, append-left (parts p) (r .1), r .2))
     (λ l. let r = makers-parts p l in (r .0, append-right (parts o) (r .1), r .2)) (in-append (makers o) k)
 
+-- an object node is no control node, so what was made at a control node was not made at an object node
 object-no-control : (k : ℕ) → isObjectNode k ≡ true → isControlNode k ≡ false
 object-no-control k h = rw (lt-leb 8 k (omega (arith, leb-true k 7 (and-true (leb 3 k) (leb k 7) h .1))))
+
+pub control-made : (t : List ℕ) (o : Offer) → isControlNode (kind t (madeAt t o)) ≡ true → StockFirst t o
+control-made t o c s = never _ c (object-no-control (kind t (madeAt t o)) s)
 
 module _ (t : List ℕ) (goes : ℕ → Option ℕ → Bool) (m : Marking) where
   -- a chain of control nodes up to where a maker was made goes on to where the offer was made
@@ -143,15 +174,15 @@ module _ (t : List ℕ) (goes : ℕ → Option ℕ → Bool) (m : Marking) where
       by (extends {j = j} {o = o} c d i u) y ih = later-on c y (λ l. ih j o u l)
       by (joins {w = w} c d v) y ih = later-on c y (λ l. let r = way-from t (offersOn t goes m n) makers with-makers v l in ih (r .0) (r .1) (r .3) (r .4))
 
-  -- "(a) first offers of the same object node": a maker made at an object node is a first offer, so the definition need not ask
-  pub stock-firsts : (n e : ℕ) {o a : Offer} → In o (offersOn t goes m n e) → In a (makers o) → isObjectNode (kind t (madeAt t a)) ≡ true → isFirst a ≡ true
+  -- "(a) first offers of the same object node": a maker made at an object node is a first offer, so to know the node is enough
+  pub stock-firsts : (n e : ℕ) {o a : Offer} → In o (offersOn t goes m n e) → In a (makers o) → StockFirst t a
   stock-firsts n e {a = a} x y h = maker-first n e x y (object-no-control (kind t (madeAt t a)) h)
 
   -- a maker made at a control node from which its offer comes again: chains of any length
   round : (n e j : ℕ) {o b : Offer} → isControlNode (kind t (source t e)) ≡ true → In j (into t (source t e)) → In o (offersOn t goes m n j) → In b (makers o)
       → madeAt t b ≡ source t e → (k : ℕ) → chain t k (source t e) ≡ true
   unfolding chain
-  round n e j c i x y h zero = c
+  round n e j c i x y h zero = refl
   round n e j c i x y h (suc k) =
       chain-longer t k (source t e) j c i (maker-chain n j k x y (ap (chain t k) h ∙ round n e j c i x y h k))
 
@@ -183,7 +214,7 @@ module _ (t : List ℕ) (goes : ℕ → Option ℕ → Bool) (m : Marking) where
             → (b : Offer) → In b (makers o) → madeAt t b ≡ source t e → ⊥
         before o c f b y h =
             let r = f b y in
-            never (chain t (limits .longestPath - 1) (source t e)) (round n e (r .0) c (r .2) (r .3) (r .4) h (limits .longestPath - 1)) (source-no-chain (table-good t limits g) e l)
+            never (chain t (limits .chainTooLong) (source t e)) (round n e (r .0) c (r .2) (r .3) (r .4) h (limits .chainTooLong)) (source-no-chain (table-good t limits g) e l)
 
         extended : (o : Offer) → ((b : Offer) → In b (makers o) → madeAt t b ≡ source t e → ⊥) → Free t (makers o) (makers o) → Free t (over o e ∷ makers o) (over o e ∷ makers o)
         extended o f h a b x y s =

@@ -1,6 +1,6 @@
 -- "So control nodes form no cycle": on a good table no route over edges through control nodes comes back to where it began. Assumes nothing.
-use mathlib.Core.Path.{_≡_, ap, subst, _∙_}
-use Prim.Native.Nat.{ℕ, zero, suc, _-_, _<_}
+use mathlib.Core.Path.{_≡_, refl, ap, subst, _∙_}
+use Prim.Native.Nat.{ℕ, zero, suc, _<_}
 use mathlib.Core.Bool.{true}
 use mathlib.Core.List.{List}
 use lib.Dec.{eqb}
@@ -39,14 +39,10 @@ module _ (t : List ℕ) where
   route-longer n {i} {k} (link l) h = link-longer n i k l h
   route-longer n {k = k} (onward {j = j} p l) h = chain-shorter t (suc n) k (link-longer (suc n) j k l (route-longer n p h))
 
-  route-control : {i k : ℕ} → Route t i k → isControlNode (kind t i) ≡ true
-  route-control (link l) = l .from-control
-  route-control (onward p l) = route-control p
-
   -- where a path comes back, chains of any length end
   round : {i : ℕ} → Route t i i → (n : ℕ) → chain t n i ≡ true
   unfolding chain
-  round p zero = route-control p
+  round p zero = refl
   round p (suc n) = route-longer n p (round p n)
 
   module _ (fine : tableFine t limits ≡ good tt) where
@@ -58,4 +54,4 @@ module _ (t : List ℕ) where
     route-ends (onward p l) = link-ends l
 
     pub no-cycle : (i : ℕ) → Route t i i → ⊥
-    no-cycle i p = never (chain t (limits .longestPath - 1) i) (round p (limits .longestPath - 1)) (table-good t limits fine .shape i (route-ends p) .no-chain)
+    no-cycle i p = never (chain t (limits .chainTooLong) i) (round p (limits .chainTooLong)) (table-good t limits fine .shape i (route-ends p) .no-chain)

@@ -1,6 +1,6 @@
 -- "So .. a path has at most 16 edges": 16 is enough fuel on a good table, and no path is longer than the fuel. Assumes nothing.
-use mathlib.Core.Path.{_≡_, ap, _∙_}
-use Prim.Native.Nat.{ℕ, zero, suc, _+_, _-_, _≤_, _<_}
+use mathlib.Core.Path.{_≡_, refl, ap, _∙_}
+use Prim.Native.Nat.{ℕ, zero, suc, _+_, _≤_, _<_}
 use native.Mathlib.Nat.{add-suc, add-zero}
 use native.Mathlib.Omega.{arith}
 use mathlib.Core.Bool.{Bool, true, false}
@@ -26,18 +26,21 @@ use Rattle.paper.proofs.Tables.{table-good, source-no-chain}
 -- a chain has shorter ones in it, with the same end
 pub chain-shorter : (t : List ℕ) (k i : ℕ) → chain t (suc k) i ≡ true → chain t k i ≡ true
 unfolding chain
-chain-shorter t zero i h = and-true (isControlNode (kind t i)) _ h .0
-chain-shorter t (suc k) i h =
+chain-shorter t zero i h = refl
+chain-shorter t (suc zero) i h = and-true (isControlNode (kind t i)) _ h .0
+chain-shorter t (suc (suc k)) i h =
     let r = and-true (isControlNode (kind t i)) _ h in
-    let s = any-in (λ j. chain t (suc k) (source t j)) (into t i) (r .1) in
-    and-both _ _ (r .0) (in-any (λ j. chain t k (source t j)) (s .1) (chain-shorter t k (source t (s .0)) (s .2)))
+    let s = any-in (λ j. chain t (suc (suc k)) (source t j)) (into t i) (r .1) in
+    and-both _ _ (r .0) (in-any (λ j. chain t (suc k) (source t j)) (s .1) (chain-shorter t (suc k) (source t (s .0)) (s .2)))
 
 -- one more control node at its end
 pub chain-longer : (t : List ℕ) (k i j : ℕ) → isControlNode (kind t i) ≡ true → In j (into t i) → chain t k (source t j) ≡ true → chain t (suc k) i ≡ true
 unfolding chain
-chain-longer t k i j c m h = and-both _ _ c (in-any (λ j. chain t k (source t j)) m h)
+chain-longer t zero i j c m h = c
+chain-longer t (suc k) i j c m h = and-both _ _ c (in-any (λ j. chain t (suc k) (source t j)) m h)
 
-no-longer : (t : List ℕ) (n k i : ℕ) → chain t n i ≡ false → chain t (n + k) i ≡ false
+-- where no chain of n ends, no longer one does
+pub no-longer : (t : List ℕ) (n k i : ℕ) → chain t n i ≡ false → chain t (n + k) i ≡ false
 no-longer t n zero i h = rw (add-zero n) h
 no-longer t n (suc k) i h =
     rw (add-suc n k) (false-if _ (λ e. never _ (chain-shorter t (n + k) i e) (no-longer t n k i h)))
@@ -53,27 +56,25 @@ module _ (t : List ℕ) (m : Marking) (e : ℕ) (f g : ℕ → List Offer) where
   handed-first h = rw h
 
 module _ (t : List ℕ) (goes : ℕ → Option ℕ → Bool) (m : Marking) where
-  -- where no chain of n + 1 control nodes ends at an edge's source, more fuel than n + 1 changes nothing
-  stable-once : (n e : ℕ) → chain t n (source t e) ≡ false → offersOn t goes m (suc n) e ≡ offersOn t goes m (suc (suc n)) e
+  -- where no chain of n control nodes ends at an edge's source, more fuel than n changes nothing
+  stable-once : (n e : ℕ) → chain t n (source t e) ≡ false → offersOn t goes m n e ≡ offersOn t goes m (suc n) e
   unfolding chain offersOn
-  stable-once zero e h = ap (keep (λ o. goes e (value o))) (handed-first t m e _ _ h)
-  stable-once (suc n) e h =
+  stable-once zero e h = never true refl h
+  stable-once (suc zero) e h = ap (keep (λ o. goes e (value o))) (handed-first t m e _ _ h)
+  stable-once (suc (suc n)) e h =
       ap (keep (λ o. goes e (value o)))
       (⊎-elim (handed-first t m e (offersOn t goes m (suc n)) (offersOn t goes m (suc (suc n))))
-      (λ b. handed-each t m e (offersOn t goes m (suc n)) (offersOn t goes m (suc (suc n))) (each-same _ _ (λ j. chain t n (source t j)) (stable-once n) (into t (source t e)) b))
+      (λ b. handed-each t m e (offersOn t goes m (suc n)) (offersOn t goes m (suc (suc n))) (each-same _ _ (λ j. chain t (suc n) (source t j)) (stable-once (suc n)) (into t (source t e)) b))
       (and-false (isControlNode (kind t (source t e))) _ h))
 
-  pub stable : (n k e : ℕ) → chain t n (source t e) ≡ false → offersOn t goes m (suc n) e ≡ offersOn t goes m (suc n + k) e
-  stable n zero e h = rw (add-zero (suc n))
-  stable n (suc k) e h =
-      let a : suc n + suc k ≡ suc (suc (n + k)) = omega arith in
-      let b : suc n + k ≡ suc (n + k) = omega arith in
-      stable n k e h ∙ rw (a, b) (stable-once (n + k) e (no-longer t n k (source t e) h))
+  pub stable : (n k e : ℕ) → chain t n (source t e) ≡ false → offersOn t goes m n e ≡ offersOn t goes m (n + k) e
+  stable n zero e h = rw (add-zero n)
+  stable n (suc k) e h = stable n k e h ∙ rw (add-suc n k) (stable-once (n + k) e (no-longer t n k (source t e) h))
 
   -- 16 is enough
   pub enough : tableFine t limits ≡ good tt → (e : ℕ) → e < edges t → (k : ℕ)
       → offersOn t goes m (limits .longestPath) e ≡ offersOn t goes m (limits .longestPath + k) e
-  enough g e l k = stable (limits .longestPath - 1) k e (source-no-chain (table-good t limits g) e l)
+  enough g e l k = stable (limits .longestPath) k e (source-no-chain (table-good t limits g) e l)
 
   -- so the offers on an edge are what its source hands on of the offers on the others
   pub on-open : tableFine t limits ≡ good tt → (e : ℕ) → e < edges t

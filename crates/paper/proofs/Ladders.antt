@@ -6,7 +6,7 @@ use mathlib.Core.Bool.{Bool, true, false, not}
 use mathlib.Core.Option.{Option, none, some}
 use borrow.Author.Tests.{not-false}
 use Rattle.paper.specs.Lists.{lowest}
-use Rattle.paper.specs.Answers.{Answer, refused, good, _>>=_, unless, need, known}
+use Rattle.paper.specs.Answers.{Answer, refused, good, _>>=_, refuseIf, need, known}
 use Rattle.paper.proofs.Lists.{lowest-is-none}
 
 -- a refusal is no value
@@ -35,19 +35,19 @@ module _ {A : Type 0} where
   need-good n true f a h = (refl, h)
   need-good n false f a h = no-good h
 
-  pub unless-good : (n : ℕ) (o : Option ℕ) (f : Unit {0} → Answer A) (a : A) → unless n o >>= f ≡ good a → (o ≡ none) × (f tt ≡ good a)
-  unless-good n none f a h = (refl, h)
-  unless-good n (some p) f a h = no-good h
+  pub refuse-good : (n : ℕ) (o : Option ℕ) (f : Unit {0} → Answer A) (a : A) → refuseIf n o >>= f ≡ good a → (o ≡ none) × (f tt ≡ good a)
+  refuse-good n none f a h = (refl, h)
+  refuse-good n (some p) f a h = no-good h
 
   pub known-good : {B : Type 0} (n : ℕ) (o : Option B) (f : B → Answer A) (a : A) → known n o >>= f ≡ good a → (x : B) × (o ≡ some x) × (f x ≡ good a)
   known-good n none f a h = no-good h
   known-good n (some x) f a h = (x, refl, h)
 
 -- the last row
-pub unless-none : (n : ℕ) (o : Option ℕ) → unless n o ≡ good tt → o ≡ none
-unless-none n none h = refl
-unless-none n (some p) h = no-good h
+pub refuse-none : (n : ℕ) (o : Option ℕ) → refuseIf n o ≡ good tt → o ≡ none
+refuse-none n none h = refl
+refuse-none n (some p) h = no-good h
 
 -- a row that looks for the lowest that fails
-pub all-pass : (n : ℕ) (p : ℕ → Bool) (m : ℕ) → unless n (lowest (λ i. not (p i)) m) ≡ good tt → (i : ℕ) → i < m → p i ≡ true
-all-pass n p m h i l = not-false (p i) (lowest-is-none (λ k. not (p k)) m (unless-none n _ h) i l)
+pub all-pass : (n : ℕ) (p : ℕ → Bool) (m : ℕ) → refuseIf n (lowest (λ i. not (p i)) m) ≡ good tt → (i : ℕ) → i < m → p i ≡ true
+all-pass n p m h i l = not-false (p i) (lowest-is-none (λ k. not (p k)) m (refuse-none n _ h) i l)

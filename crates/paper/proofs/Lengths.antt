@@ -8,6 +8,7 @@ use mathlib.Core.List.{List, [], _∷_, _++_, append-assoc}
 use lib.ListN.{length, getD, drop, length-append, length-drop, List·getD-append}
 use lib.Seq.{drop-cons, getD-append-add}
 use Rattle.paper.specs.Lists.{at, from, below, each, keep, gather}
+use Rattle.paper.proofs.Members.{In, here, later}
 
 pub length-zero : {A : Type 0} (xs : List A) → length xs ≡ 0 → xs ≡ []
 length-zero [] h = refl
@@ -46,6 +47,11 @@ module _ {A B : Type 0} (w : A → List B) where
   pub length-gather-le : (k : ℕ) → ((x : A) → length (w x) ≤ k) → (xs : List A) → length (gather w xs) ≤ k * length xs
   length-gather-le k h [] = omega (arith, mul-zero k)
   length-gather-le k h (x ∷ xs) = omega (arith, length-append (w x) (gather w xs), h x, length-gather-le k h xs, mul-suc k (length xs))
+
+  pub length-gather-most : (k : ℕ) (xs : List A) → ((x : A) → In x xs → length (w x) ≤ k) → length (gather w xs) ≤ k * length xs
+  length-gather-most k [] h = omega (arith, mul-zero k)
+  length-gather-most k (x ∷ xs) h =
+      omega (arith, length-append (w x) (gather w xs), h x (here refl), length-gather-most k xs (λ y m. h y (later m)), mul-suc k (length xs))
 
   module _ (k : ℕ) (same : (x : A) → length (w x) ≡ k) where
     pub length-gather : (xs : List A) → length (gather w xs) ≡ k * length xs

@@ -31,12 +31,17 @@ pub mod Bits
 pub mod Choices
 pub mod Search
 pub mod Boards
+pub mod Sizes
 pub mod Picks
+pub mod PickMeans
 pub mod Inputs
 pub mod Decimals
 pub mod Actions
 pub mod Named
 pub mod EmptyChoice
 pub mod Calls
+pub mod SameAnswer
+pub mod OneWord
+pub mod EnoughRoom
 pub mod Computed
 pub mod SmallEvent

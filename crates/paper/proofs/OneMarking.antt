@@ -19,8 +19,8 @@ use Rattle.paper.specs.Table.{nodes, edges, kind, upper, isAction, isObj
 use Rattle.paper.specs.Marking.{Marking, blank, Field, stockOf, runsOf, tokensOf, written, counted, nodeFields, layout, encode, fieldRead}
 use Rattle.paper.specs.Marking.{fieldsRead, markingFine, markingRead, marking, hasStock, hasRuns, hasTokens, Good}
 use Rattle.paper.proofs.Bools.{never, and-true, true-or-false, false-if}
-use Rattle.paper.proofs.Members.{In, here, later, in-none, in-cons, Distinct}
-use Rattle.paper.proofs.Lengths.{length-zero, gather-append, gather-gather, gather-each, length-gather, length-gather-le, length-from, length-keep}
+use Rattle.paper.proofs.Members.{In, here, later, in-none, in-cons, in-below, Distinct}
+use Rattle.paper.proofs.Lengths.{length-zero, gather-append, gather-gather, gather-each, length-gather, length-gather-most, length-from, length-keep}
 use Rattle.paper.proofs.Bounds.{most-if, under-nil, under-cons, under-append, under-gather}
 use Rattle.paper.proofs.Bytes.{Bytes, Words, Front, front-on, never-some, same-read, went-on, on-and-on, passed, read-passed, whole-is, byte-is}
 use Rattle.paper.proofs.Bytes.{upTo-is, flag-fits, flag-byte, flag-back, flag-is, values-back, values-are, values-most, listed-bytes, sized-bytes}
@@ -303,12 +303,12 @@ module _ (t : List ℕ) where
       fields-room (layout t) (blank (eqb (r .0) 1)) (r .1) m [] (r .3) (λ i. omega arith)
 
   -- ---- the size
-  node-size : (m : Marking) → ((i : ℕ) → length (m .stock i) ≤ 16) → (i : ℕ) → length (gather (written m) (nodeFields t i)) ≤ 65
+  node-size : (k : ℕ) (m : Marking) (i : ℕ) → length (m .stock i) ≤ k → length (gather (written m) (nodeFields t i)) ≤ 1 + 4 * k
   unfolding written
-  node-size m h i = by (isObjectNode (kind t i)) (isAction (kind t i))
+  node-size k m i h = by (isObjectNode (kind t i)) (isAction (kind t i))
     where
-      by : (o a : Bool) → length (gather (written m) (cond o (stockOf i ∷ []) (cond a (runsOf i ∷ []) []))) ≤ 65
-      by true a = omega (arith, ap length (append-nil (listed (m .stock i))), length-listed (m .stock i), h i)
+      by : (o a : Bool) → length (gather (written m) (cond o (stockOf i ∷ []) (cond a (runsOf i ∷ []) []))) ≤ 1 + 4 * k
+      by true a = omega (arith, ap length (append-nil (listed (m .stock i))), length-listed (m .stock i), h)
       by false true = omega arith
       by false false = omega arith
 
@@ -316,19 +316,21 @@ module _ (t : List ℕ) where
   unfolding written
   count-size m js = ap length (gather-each (written m) tokensOf js) ∙ length-gather (λ j. written m (tokensOf j)) 1 (λ j. refl) js ∙ one-mul (length js)
 
-  -- a stock of 16 takes 65 bytes
-  pub encode-length : (m : Marking) → ((i : ℕ) → length (m .stock i) ≤ 16) → length (encode t m) ≤ 4 + 65 * nodes t + edges t
+  -- a stock of k values takes 1 + 4k bytes
+  pub encode-length : (k : ℕ) (m : Marking) → ((i : ℕ) → i < nodes t → length (m .stock i) ≤ k) → length (encode t m) ≤ 4 + (1 + 4 * k) * nodes t + edges t
   unfolding encode layout
-  encode-length m h =
+  encode-length k m h =
       let ns = below (nodes t) in
       let js = keep (counted t) (below (edges t)) in
+      let w : ℕ → List ℕ = λ i. gather (written m) (nodeFields t i) in
       let a = ap length (gather-gather (written m) (nodeFields t) ns) in
-      let b = length-gather-le (λ i. gather (written m) (nodeFields t i)) 65 (node-size m h) ns in
+      let b : length (gather w ns) ≤ (1 + 4 * k) * nodes t
+      = rw (length-from 0 (nodes t)) at (length-gather-most w (1 + 4 * k) ns (λ i n. node-size k m i (h i (in-below (nodes t) n)))) in
       let c = count-size m js in
       let d = length-keep (counted t) (below (edges t)) in
       let e = ap length (gather-append (written m) (gather (nodeFields t) ns) (each tokensOf js)) in
       let f = length-append (gather (written m) (gather (nodeFields t) ns)) (gather (written m) (each tokensOf js)) in
-      omega (arith, length-from 0 (nodes t), length-from 0 (edges t))
+      omega (arith, length-from 0 (edges t))
 
   -- ---- under a good table
   pub stocks-small : (m : Marking) → tableFine t limits ≡ good tt → Good t m → (i : ℕ) → length (m .stock i) ≤ 16
@@ -342,7 +344,7 @@ module _ (t : List ℕ) where
 
   -- "A marking fits within 4,096 bytes."
   pub encode-fits : (m : Marking) → tableFine t limits ≡ good tt → Good t m → length (encode t m) ≤ 4096
-  encode-fits m f g = let r = table-good t limits f .frame in omega (arith, encode-length m (stocks-small m f g))
+  encode-fits m f g = let r = table-good t limits f .frame in omega (arith, encode-length 16 m (λ i l. stocks-small m f g i))
 
   written-bytes : (m : Marking) → ((i : ℕ) → length (m .stock i) ≤ 16) → (f : Field) → Fits t f (content m f) → Bytes (written m f)
   unfolding written

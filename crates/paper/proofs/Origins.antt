@@ -9,7 +9,7 @@ use mathlib.Core.Option.{Option, none, some}
 use lib.Dec.{eqb, leb}
 use borrow.Author.Tests.{eqb-true, eq-eqb, not-true}
 use Rattle.paper.specs.Lists.{below, any, keep, each, gather}
-use Rattle.paper.specs.Table.{edges, kind, source, target, into, out, isJoin, isControlNode}
+use Rattle.paper.specs.Table.{edges, kind, source, target, into, out, isJoin, isControlNode, isObjectNode}
 use Rattle.paper.specs.Marking.{Marking, counted}
 use Rattle.paper.specs.Limits.{limits}
 use Rattle.paper.specs.Offers.{Offer, first, over, with, value, parts, compete, firsts, ways, handed, offersOn, offers}
@@ -71,14 +71,15 @@ module _ (t : List ℕ) (m : Marking) where
   -- a first offer: the edge, and no other first offer on it
   pub in-firsts : (e : ℕ) {o : Offer} → In o (firsts t m e) → (v : Option ℕ) × (firsts t m e ≡ first e v ∷ [])
   unfolding firsts
-  in-firsts e {o} k = by (counted t e) refl (leb 1 (m .tokens e)) refl (m .stock (source t e)) refl k
+  in-firsts e {o} k = by (counted t e) refl (leb 1 (m .tokens e)) refl (isObjectNode (kind t (source t e))) refl (m .stock (source t e)) refl k
     where
-      by : (b : Bool) → counted t e ≡ b → (c : Bool) → leb 1 (m .tokens e) ≡ c → (vs : List ℕ) → m .stock (source t e) ≡ vs
+      by : (b : Bool) → counted t e ≡ b → (c : Bool) → leb 1 (m .tokens e) ≡ c → (d : Bool) → isObjectNode (kind t (source t e)) ≡ d → (vs : List ℕ) → m .stock (source t e) ≡ vs
           → In o (firsts t m e) → (v : Option ℕ) × (firsts t m e ≡ first e v ∷ [])
-      by true p true q vs r k = (none, rw (p, q))
-      by true p false q vs r k = absurd (in-none (rw (p, q) at k))
-      by false p c q [] r k = absurd (in-none (rw (p, r) at k))
-      by false p c q (v ∷ vs) r k = (some v, rw (p, r))
+      by true p true q d s vs r k = (none, rw (p, q))
+      by true p false q d s vs r k = absurd (in-none (rw (p, q) at k))
+      by false p c q true s [] r k = absurd (in-none (rw (p, s, r) at k))
+      by false p c q true s (v ∷ vs) r k = (some v, rw (p, s, r))
+      by false p c q false s vs r k = absurd (in-none (rw (p, s) at k))
 
   pub handed-view : (on : ℕ → List Offer) (e : ℕ) {o : Offer} → In o (handed t m on e) → Handed t m on e o
   unfolding handed

@@ -43,7 +43,7 @@ unfoldable pub searched : List ℕ → List ℕ → List ℕ → ℕ → Answer 
 searched t b g n = searchedOn (board t b g) n
 
 -- where no node is named, an acceptable choice is wanted
-any-wanted : (d : Board) (n c : ℕ) → named n ≡ false → acceptable d c ≡ true → wanted d n c ≡ true
+pub any-wanted : (d : Board) (n c : ℕ) → named n ≡ false → acceptable d c ≡ true → wanted d n c ≡ true
 unfolding wanted
 any-wanted d n c e h = rw (e, h)
 

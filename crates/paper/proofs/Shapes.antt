@@ -1,23 +1,23 @@
 -- The kinds that edges leave and enter, as ranges, and the shape of a node by counts of edges: what a check in one pass goes by. Assumes nothing.
 use mathlib.Core.Path.{_≡_, refl, sym, ap, ap₂, _∙_}
-use Prim.Native.Nat.{ℕ, zero, suc, _+_, _≤_, _<_}
+use Prim.Native.Nat.{ℕ, zero, suc, _≤_, _<_}
 use native.Mathlib.Omega.{arith}
-use native.Mathlib.Nat.{zero-add, suc-add}
 use mathlib.Core.Bool.{Bool, true, false, not, _&&_, _||_, cond, Bool·beq, Bool·not-not, and-false, and-comm}
 use mathlib.Core.Logic.{⊎-elim}
 use mathlib.Core.List.{List, [], _∷_, _++_}
 use lib.Dec.{leb, ltb, eqb}
 use borrow.Author.Tests.{ltb-true, ltb-false, eqb-true, lt-leb, ne-eqb}
 use Rattle.paper.specs.Lists.{below, all, any, count, within}
+use Rattle.paper.specs.Limits.{Limits}
 use Rattle.paper.specs.Table.{nodes, edges, kind, owner, lower, source, target, isObject, isControl, into, inputs, isInput, isPin, isControlNode, oneOf, mayLeave, mayEnter, nodeFine, chain}
 use Rattle.paper.proofs.Bools.{and-true, true-or-false}
 use Rattle.paper.proofs.Lists.{all-below}
-use Rattle.paper.proofs.Counts.{all-append, all-count, count-same, any-same, any-and, any-keep, any-below-none}
+use Rattle.paper.proofs.Counts.{all-append, all-count, count-same, any-same, any-and, any-keep}
 use Rattle.paper.proofs.Tables.{node-facts}
 
 -- a pin's owner is a node
-pub pin-owner : (t : List ℕ) (i : ℕ) → nodeFine t i ≡ true → isPin (kind t i) ≡ true → owner t i < nodes t
-pin-owner t i h e = ltb-true _ _ (and-true (ltb (owner t i) (nodes t)) _ (rw e at (node-facts t i h .owner-fine)) .0)
+pub pin-owner : (t : List ℕ) (l : Limits) (i : ℕ) → nodeFine t l i ≡ true → isPin (kind t i) ≡ true → owner t i < nodes t
+pin-owner t l i h e = ltb-true _ _ (and-true (ltb (owner t i) (nodes t)) _ (rw e at (node-facts t l i h .owner-fine)) .0)
 
 -- the lists of kinds that edges leave and enter, as ranges: they agree on the kinds there are, computed, and nothing else is in either
 one-of-none : (ks : List ℕ) (n k : ℕ) → all (λ x. ltb x n) ks ≡ true → n ≤ k → oneOf ks k ≡ false
@@ -87,25 +87,18 @@ module _ (t : List ℕ) where
       last-two false b c = refl
 
   -- a chain goes on over an edge from its end to a control node
-  pub chain-on : (k i : ℕ)
+  pub chain-on : (k i : ℕ) → 1 ≤ k
       → chain t (suc k) i
       ≡ any (λ j. isControlNode (kind t (target t j)) && chain t k (source t j) && eqb (target t j) i) (below (edges t))
   unfolding chain into
-  chain-on k i =
-      ap (λ (b : Bool). isControlNode (kind t i) && b) (any-keep (λ j. eqb (target t j) i) (λ j. chain t k (source t j)) (below (edges t)))
-      ∙ any-and (λ j. eqb (target t j) i && chain t k (source t j)) (isControlNode (kind t i)) (below (edges t))
-      ∙ any-same (λ j. isControlNode (kind t i) && (eqb (target t j) i && chain t k (source t j)))
-      (λ j. isControlNode (kind t (target t j)) && chain t k (source t j) && eqb (target t j) i)
-      (λ j. at-target j (eqb (target t j) i) (chain t k (source t j)) refl) (below (edges t))
+  chain-on zero i h = absurd (omega arith)
+  chain-on (suc k) i h =
+      ap (λ (b : Bool). isControlNode (kind t i) && b) (any-keep (λ j. eqb (target t j) i) (λ j. chain t (suc k) (source t j)) (below (edges t)))
+      ∙ any-and (λ j. eqb (target t j) i && chain t (suc k) (source t j)) (isControlNode (kind t i)) (below (edges t))
+      ∙ any-same (λ j. isControlNode (kind t i) && (eqb (target t j) i && chain t (suc k) (source t j)))
+      (λ j. isControlNode (kind t (target t j)) && chain t (suc k) (source t j) && eqb (target t j) i)
+      (λ j. at-target j (eqb (target t j) i) (chain t (suc k) (source t j)) refl) (below (edges t))
     where
       at-target : (j : ℕ) (b c : Bool) → eqb (target t j) i ≡ b → isControlNode (kind t i) && (b && c) ≡ isControlNode (kind t (target t j)) && c && b
       at-target j true c e = rw (eqb-true (target t j) i e) (sym (mathlib.Core.Bool.and-true (isControlNode (kind t i) && c)))
       at-target j false c e = and-false (isControlNode (kind t i)) ∙ sym (and-false (isControlNode (kind t (target t j)) && c))
-
-  -- where no chain of k + 1 ends, no longer one does
-  pub chain-over : ((j : ℕ) → j < edges t → source t j < nodes t) → (k : ℕ) → ((i : ℕ) → i < nodes t → chain t k i ≡ false)
-      → (m i : ℕ) → i < nodes t → chain t (m + k) i ≡ false
-  chain-over ends k h zero i l = rw zero-add (h i l)
-  chain-over ends k h (suc m) i l =
-      rw suc-add (chain-on (m + k) i ∙ any-below-none (λ j. isControlNode (kind t (target t j)) && chain t (m + k) (source t j) && eqb (target t j) i) (edges t)
-      (λ j u. rw (chain-over ends k h m (source t j) (ends j u)) (rw (and-false (isControlNode (kind t (target t j)))))))

@@ -1,15 +1,22 @@
--- The small event: the paper's list "To prove, as one table", in its order and numbers. Assumes nothing.
+-- The small event: the paper's list "To prove, as one table (T the table, M the marking)" as a table, `cases`, in its order and numbers, and one theorem that
+-- every row holds, `small-event`. Assumes nothing.
 use Prim.Native.Nat.{ℕ}
-use mathlib.Core.Path.{_≡_, refl}
+use mathlib.Core.Path.{_≡_, refl, sym, subst}
+use mathlib.Core.Logic.{⊎-elim}
 use mathlib.Core.List.{List, [], _∷_, _++_}
-use Rattle.paper.specs.Answers.{refused, good}
-use Rattle.paper.specs.Operations.{start, sheet, step, finish, Pick}
+use lib.ListN.{set}
+use Rattle.paper.specs.Answers.{Answer, refused, good}
+use Rattle.paper.specs.Table.{nodeAt}
+use Rattle.paper.specs.Operations.{start, Leaves}
 use Rattle.paper.specs.Program.{Prints}
-use Rattle.paper.proofs.EmptyChoice.{picks}
+use Rattle.paper.proofs.Members.{In, in-none, in-cons}
+use Rattle.paper.proofs.EmptyChoice.{picks as picked}
+use Rattle.paper.proofs.Calls.{Call, sheets, picks, steps, finishes, AllowedBy, one-allowed}
+use Rattle.paper.proofs.SameAnswer.{Left, leaves-left}
 use Rattle.paper.proofs.Computed.{computed}
 
 -- the table; node 2 is a decision, node 3 a join, node 4 the pin of action 5, node 6 a buffer
-abbrev T : List ℕ
+abbrev pub T : List ℕ
 T =
     0x00 ∷ 0x33 ∷ 0x01 ∷ 0x07 ∷ 0x05 ∷
     0x01 ∷ 0xFF ∷ 0x00 ∷ 0x00 ∷
@@ -25,100 +32,130 @@ T =
     0x01 ∷ 0x02 ∷ 0x06 ∷ 0x01 ∷
     0x01 ∷ 0x03 ∷ 0x04 ∷ 0x00 ∷ []
 
--- C12: node 2 made a fork
-abbrev T12 : List ℕ
-T12 =
-    0x00 ∷ 0x33 ∷ 0x01 ∷ 0x07 ∷ 0x05 ∷
-    0x01 ∷ 0xFF ∷ 0x00 ∷ 0x00 ∷
-    0x06 ∷ 0xFF ∷ 0x00 ∷ 0x04 ∷
-    0x0A ∷ 0xFF ∷ 0x00 ∷ 0x00 ∷
-    0x0B ∷ 0xFF ∷ 0x00 ∷ 0x00 ∷
-    0x03 ∷ 0x05 ∷ 0x01 ∷ 0x01 ∷
-    0x02 ∷ 0xFF ∷ 0x00 ∷ 0x00 ∷
-    0x05 ∷ 0xFF ∷ 0x00 ∷ 0x02 ∷
-    0x00 ∷ 0x00 ∷ 0x03 ∷ 0x00 ∷
-    0x01 ∷ 0x01 ∷ 0x02 ∷ 0x00 ∷
-    0x01 ∷ 0x02 ∷ 0x03 ∷ 0x01 ∷
-    0x01 ∷ 0x02 ∷ 0x06 ∷ 0x01 ∷
-    0x01 ∷ 0x03 ∷ 0x04 ∷ 0x00 ∷ []
+-- C12: node 2 made a fork, its kind being the first of its four bytes
+abbrev pub T12 : List ℕ
+T12 = set T (nodeAt T 2) 0x0A
 
-abbrev M : List ℕ
+abbrev pub M : List ℕ
 M = 0x00 ∷ 0x0F ∷ 0x01 ∷ 0x00 ∷ 0x02 ∷ 0x00 ∷ 0x00 ∷ 0x00 ∷ 0x07 ∷ 0x00 ∷ 0x00 ∷ 0x00 ∷ 0x09 ∷ 0x00 ∷ 0x00 ∷ 0x00 ∷ 0x01 ∷ []
 
 -- C11: node 6 holding two
-abbrev M11 : List ℕ
+abbrev pub M11 : List ℕ
 M11 = 0x00 ∷ 0x17 ∷ 0x01 ∷ 0x00 ∷ 0x02 ∷ 0x00 ∷ 0x00 ∷ 0x00 ∷ 0x07 ∷ 0x00 ∷ 0x00 ∷ 0x00 ∷ 0x09 ∷ 0x00 ∷ 0x00 ∷ 0x02 ∷ 0x00 ∷ 0x00 ∷ 0x00 ∷ 0x01 ∷ 0x00 ∷ 0x00 ∷ 0x00 ∷ 0x02 ∷ 0x01 ∷ []
 
-abbrev guards : List ℕ
+abbrev pub guards : List ℕ
 guards = 0x01 ∷ 0x01 ∷ 0x01 ∷ 0x01 ∷ 0x01 ∷ []
 
 -- C9: guard 3 at 0
-abbrev guards9 : List ℕ
-guards9 = 0x01 ∷ 0x01 ∷ 0x01 ∷ 0x00 ∷ 0x01 ∷ []
+abbrev pub guards9 : List ℕ
+guards9 = set guards 3 0x00
 
-abbrev M7 : List ℕ
+-- C7: what step 1 writes
+abbrev pub M7 : List ℕ
 M7 = 0x00 ∷ 0x0F ∷ 0x01 ∷ 0x00 ∷ 0x01 ∷ 0x00 ∷ 0x00 ∷ 0x00 ∷ 0x09 ∷ 0x01 ∷ 0x00 ∷ 0x00 ∷ 0x00 ∷ 0x07 ∷ 0x01 ∷ 0x00 ∷ 0x00 ∷ []
 
+-- C8: and then finish 5
+abbrev pub M8 : List ℕ
+M8 = 0x00 ∷ 0x0B ∷ 0x01 ∷ 0x00 ∷ 0x01 ∷ 0x00 ∷ 0x00 ∷ 0x00 ∷ 0x09 ∷ 0x00 ∷ 0x00 ∷ 0x00 ∷ 0x00 ∷ []
+
+-- C1: the sheet of the two ends, on edge 3 to node 6, value 7, path 1,3; on edge 4 to node 4, value 7, paths 0,4 and 1,2,4
+abbrev pub twoEnds : List ℕ
+twoEnds =
+    0x00 ∷ 0x1A ∷ 0x01 ∷ 0x02 ∷
+    0x03 ∷ 0x01 ∷ 0x00 ∷ 0x00 ∷ 0x00 ∷ 0x07 ∷ 0x01 ∷ 0x02 ∷ 0x01 ∷ 0x03 ∷
+    0x04 ∷ 0x01 ∷ 0x00 ∷ 0x00 ∷ 0x00 ∷ 0x07 ∷ 0x02 ∷ 0x02 ∷ 0x00 ∷ 0x04 ∷ 0x03 ∷ 0x01 ∷ 0x02 ∷ 0x04 ∷ []
+
+-- C9: of the second alone
+abbrev pub oneEnd : List ℕ
+oneEnd =
+    0x00 ∷ 0x10 ∷ 0x01 ∷ 0x01 ∷
+    0x04 ∷ 0x01 ∷ 0x00 ∷ 0x00 ∷ 0x00 ∷ 0x07 ∷ 0x02 ∷ 0x02 ∷ 0x00 ∷ 0x04 ∷ 0x03 ∷ 0x01 ∷ 0x02 ∷ 0x04 ∷ []
+
+-- ---- the table: case number, call, answer
+pub record Case : Type 0 where
+  pub number : ℕ
+  pub call : Call
+  pub answer : Answer (List ℕ)
+
+abbrev c : ℕ → Call → Answer (List ℕ) → Case
+c n call answer = record { number = n; call = call; answer = answer }
+
+abbrev pub cases : List Case
+cases =
+    -- the two ends above
+    c 1 (sheets T M guards) (good twoEnds) ∷
+    -- choice 0,1: refusal 10 place 0
+    c 2 (steps T M guards (0 ∷ 1 ∷ [])) (refused 10 0) ∷
+    -- pick: 0
+    c 3 (picks T M guards 255) (good (0 ∷ [])) ∷
+    -- pick for node 5: 1
+    c 4 (picks T M guards 5) (good (1 ∷ [])) ∷
+    -- for node 4: 1
+    c 5 (picks T M guards 4) (good (1 ∷ [])) ∷
+    -- for node 2: 13 place 2
+    c 6 (picks T M guards 2) (refused 13 2) ∷
+    -- step 1: `000F 01 00 01 00000009 01 00000007 01 00 00`
+    c 7 (steps T M guards (1 ∷ [])) (good M7) ∷
+    -- then finish 5, no bytes: `000B 01 00 01 00000009 00 00 00 00`
+    c 8 (finishes T M7 5 []) (good M8) ∷
+    -- guard 3 at 0: one end, on edge 4
+    c 9 (sheets T M guards9) (good oneEnd) ∷
+    -- empty choice: M
+    c 10 (steps T M guards []) (good M) ∷
+    -- node 6 holding two: step 0 gives 12 place 6
+    c 11 (steps T M11 guards (0 ∷ [])) (refused 12 6) ∷
+    -- node 2 made a fork: step 0 gives 11 place 2, pick gives 0,1
+    c 12 (steps T12 M guards (0 ∷ [])) (refused 11 2) ∷
+    c 12 (picks T12 M guards 255) (good (0 ∷ 1 ∷ [])) ∷ []
+
+-- what is proved of a row: its operation's definition allows the answer and no other, and whatever meets the operation's promise on the row's call, whatever
+-- room is lent, returns the answer's word and leaves its bytes (`Left`)
+pub record Holds (r : Case) : Type 0 where
+  pub allowed : AllowedBy (r .call) (r .answer)
+  pub no-other : (a : Answer (List ℕ)) → AllowedBy (r .call) a → a ≡ r .answer
+  pub left : (word : ℕ) (before after : List ℕ) → Leaves (AllowedBy (r .call)) word before after → Left (r .answer) word before after
+
+holds : (r : Case) → AllowedBy (r .call) (r .answer) → Holds r
+holds r h = record {
+  allowed = h;
+  no-other = λ a i. one-allowed (r .call) a (r .answer) i h;
+  left = leaves-left (one-allowed (r .call)) (r .answer) h;
+}
+
+-- each row's answer is computed on the definitions
+abbrev Computed : List Case → Type 0
+Computed [] = Unit {0}
+Computed (r ∷ rs) = AllowedBy (r .call) (r .answer) × Computed rs
+
+infixr 5 _also_
+abbrev _also_ : {A B : Type 0} → A → B → A × B
+_also_ a b = (a, b)
+
+computed-rows : Computed cases
+unfolding computed
+computed-rows =
+    refl also refl
+    also picked T M guards 255 also picked T M guards 5 also picked T M guards 4 also picked T M guards 2
+    also refl also refl also refl also refl also refl
+    also refl also picked T12 M guards 255 also tt
+
+in-computed : (rs : List Case) → Computed rs → (r : Case) → In r rs → AllowedBy (r .call) (r .answer)
+in-computed [] h r m = absurd (in-none m)
+in-computed (q ∷ qs) h r m =
+    ⊎-elim (λ e. subst (λ (x : Case). AllowedBy (x .call) (x .answer)) (sym e) (h .0)) (in-computed qs (h .1) r) (in-cons m)
+
+-- C1 to C12: every row of the table holds
+pub small-event : (r : Case) → In r cases → Holds r
+small-event r m = holds r (in-computed cases computed-rows r m)
+
+-- ---- besides
 -- start, given what node 1 holds, writes the marking
-c0 : start T (0x02 ∷ 0x00 ∷ 0x00 ∷ 0x00 ∷ 0x07 ∷ 0x00 ∷ 0x00 ∷ 0x00 ∷ 0x09 ∷ []) ≡ good M
+pub started : start T (0x02 ∷ 0x00 ∷ 0x00 ∷ 0x00 ∷ 0x07 ∷ 0x00 ∷ 0x00 ∷ 0x00 ∷ 0x09 ∷ []) ≡ good M
 unfolding computed
-c0 = refl
-
--- the two ends: on edge 3 to node 6, value 7, path 1,3; on edge 4 to node 4, value 7, paths 0,4 and 1,2,4
-c1 : sheet T M guards ≡ good (0x00 ∷ 0x1A ∷ 0x01 ∷ 0x02 ∷ 0x03 ∷ 0x01 ∷ 0x00 ∷ 0x00 ∷ 0x00 ∷ 0x07 ∷ 0x01 ∷ 0x02 ∷ 0x01 ∷ 0x03 ∷ 0x04 ∷ 0x01 ∷ 0x00 ∷ 0x00 ∷ 0x00 ∷ 0x07 ∷ 0x02 ∷ 0x02 ∷ 0x00 ∷ 0x04 ∷ 0x03 ∷ 0x01 ∷ 0x02 ∷ 0x04 ∷ [])
-unfolding computed
-c1 = refl
-
-c2 : step T M guards (0 ∷ 1 ∷ []) ≡ refused 10 0
-unfolding computed
-c2 = refl
-
-c3 : Pick T M guards 255 (good (0 ∷ []))
-unfolding computed
-c3 = picks T M guards 255
-
-c4 : Pick T M guards 5 (good (1 ∷ []))
-unfolding computed
-c4 = picks T M guards 5
-
-c5 : Pick T M guards 4 (good (1 ∷ []))
-unfolding computed
-c5 = picks T M guards 4
-
-c6 : Pick T M guards 2 (refused 13 2)
-unfolding computed
-c6 = picks T M guards 2
-
-c7 : step T M guards (1 ∷ []) ≡ good M7
-unfolding computed
-c7 = refl
-
-c8 : finish T M7 5 [] ≡ good (0x00 ∷ 0x0B ∷ 0x01 ∷ 0x00 ∷ 0x01 ∷ 0x00 ∷ 0x00 ∷ 0x00 ∷ 0x09 ∷ 0x00 ∷ 0x00 ∷ 0x00 ∷ 0x00 ∷ [])
-unfolding computed
-c8 = refl
-
-c9 : sheet T M guards9 ≡ good (0x00 ∷ 0x10 ∷ 0x01 ∷ 0x01 ∷ 0x04 ∷ 0x01 ∷ 0x00 ∷ 0x00 ∷ 0x00 ∷ 0x07 ∷ 0x02 ∷ 0x02 ∷ 0x00 ∷ 0x04 ∷ 0x03 ∷ 0x01 ∷ 0x02 ∷ 0x04 ∷ [])
-unfolding computed
-c9 = refl
-
-c10 : step T M guards [] ≡ good M
-unfolding computed
-c10 = refl
-
-c11 : step T M11 guards (0 ∷ []) ≡ refused 12 6
-unfolding computed
-c11 = refl
-
-c12-step : step T12 M guards (0 ∷ []) ≡ refused 11 2
-unfolding computed
-c12-step = refl
-
-c12-pick : Pick T12 M guards 255 (good (0 ∷ 1 ∷ []))
-unfolding computed
-c12-pick = picks T12 M guards 255
+started = refl
 
 -- "Whole output": the lines `ends 2`, `0 3 6 7 1,3`, `1 4 4 7 0,4 1,2,4`, `pick 0`
-printed : Prints (T ++ M ++ guards)
+pub printed : Prints (T ++ M ++ guards)
     (101 ∷ 110 ∷ 100 ∷ 115 ∷ 32 ∷ 50 ∷ 10 ∷ 48 ∷ 32 ∷ 51 ∷ 32 ∷ 54 ∷ 32 ∷ 55 ∷ 32 ∷ 49 ∷ 44 ∷ 51 ∷ 10 ∷ 49 ∷ 32 ∷ 52 ∷ 32 ∷ 52 ∷ 32 ∷ 55 ∷ 32 ∷ 48 ∷ 44 ∷ 52 ∷ 32 ∷ 49 ∷ 44 ∷ 50 ∷ 44 ∷ 52 ∷ 10 ∷ 112 ∷ 105 ∷ 99 ∷ 107 ∷ 32 ∷ 48 ∷ 10 ∷ [])
 unfolding computed
-printed = record { picked = good (0 ∷ []); allowed = c3; is-text = refl }
+printed = record { picked = good (0 ∷ []); allowed = picked T M guards 255; is-text = refl }

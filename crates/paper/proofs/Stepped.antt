@@ -12,7 +12,7 @@ use borrow.Author.Tests.{leb-true, le-leb, ltb-true, lt-ltb, eqb-true, eq-eqb, n
 use Rattle.paper.specs.Lists.{below, all, any, keep, gather, count, within, _⇒_}
 use Rattle.paper.specs.Limits.{limits}
 use Rattle.paper.specs.Answers.{good, judgedBy}
-use Rattle.paper.specs.Table.{nodes, edges, kind, owner, lower, upper, source, target, into, out, inputs, isObject, isAction, isInput, isBuffer, isOutgoing, isPin, isObjectNode, isActivityFinal, oneOf, mayLeave, mayEnter, tableFine}
+use Rattle.paper.specs.Table.{nodes, edges, kind, owner, lower, upper, source, target, into, out, inputs, isObject, isControl, isAction, isInput, isBuffer, isOutgoing, isPin, isObjectNode, isActivityFinal, oneOf, mayLeave, mayEnter, tableFine}
 use Rattle.paper.specs.Marking.{Marking, Field, stockOf, runsOf, tokensOf, layout, counted, pinFine, cleared, markingFine, endedOf, hasStock, hasRuns, hasTokens, Good}
 use Rattle.paper.specs.Offers.{Offer, first, lastEdge, value, orElse, firsts, offersOn, offers, targetOf, belongs, ends, goesOver, guardsFine, sizesFine}
 use Rattle.paper.specs.Choices.{Board, boardOf, howMany, takenEnds, arrivals, rule1, rule2, rule3, actionAgrees, agrees, rules, spent, spend, gain, close, next}
@@ -20,7 +20,7 @@ use Rattle.paper.specs.Operations.{rising, choiceOf, stepOf}
 use Rattle.paper.proofs.Bools.{never, and-true, and-both, or-true, or-right, if-true, either-way}
 use Rattle.paper.proofs.Lists.{all-below, below-all, lowest-is-none}
 use Rattle.paper.proofs.Lengths.{length-gather-le}
-use Rattle.paper.proofs.Ladders.{same-good, row-good, need-good, unless-good}
+use Rattle.paper.proofs.Ladders.{same-good, row-good, need-good, refuse-good}
 use Rattle.paper.proofs.Members.{In, here, later, in-keep, keep-in, in-keep-below, below-in, any-in, in-any, none-any, all-in, in-all, snoc-some}
 use Rattle.paper.proofs.Bounds.{most-if, under-nil, under-cons, under-append, under-gather, under-drop}
 use Rattle.paper.proofs.Bytes.{Words}
@@ -38,16 +38,16 @@ nothing-in : {A : Type 0} (xs : List A) → ((x : A) → In x xs → ⊥) → xs
 nothing-in [] h = refl
 nothing-in (x ∷ xs) h = absurd (h x (here refl))
 
-shorter : (s : List ℕ) → length (drop 1 s) ≤ length s
+pub shorter : (s : List ℕ) → length (drop 1 s) ≤ length s
 shorter [] = omega arith
 shorter (x ∷ xs) = omega arith
 
 -- the values of an option: none or one
-abbrev single : Option ℕ → List ℕ
+abbrev pub single : Option ℕ → List ℕ
 single none = []
 single (some v) = v ∷ []
 
-single-few : (v : Option ℕ) → length (single v) ≤ 1
+pub single-few : (v : Option ℕ) → length (single v) ≤ 1
 single-few none = omega arith
 single-few (some v) = omega arith
 
@@ -92,14 +92,15 @@ Small (some v) = v < 2 ^ 32
 module _ (t : List ℕ) (goes : ℕ → Option ℕ → Bool) (m : Marking) (ok : Good t m) where
   first-small : (e : ℕ) {v : Option ℕ} → firsts t m e ≡ first e v ∷ [] → Small v
   unfolding firsts
-  first-small e {v} f = by (counted t e) refl (leb 1 (m .tokens e)) refl (m .stock (source t e)) refl
+  first-small e {v} f = by (counted t e) refl (leb 1 (m .tokens e)) refl (isObjectNode (kind t (source t e))) refl (m .stock (source t e)) refl
     where
-      by : (b : Bool) → counted t e ≡ b → (c : Bool) → leb 1 (m .tokens e) ≡ c → (vs : List ℕ) → m .stock (source t e) ≡ vs → Small v
-      by true p true q vs r = let h : first e none ∷ [] ≡ first e v ∷ [] = rw (p, q) at f in subst Small (one-is h) tt
-      by true p false q vs r = let h : [] ≡ first e v ∷ [] = rw (p, q) at f in snoc-some [] (first e v) h
-      by false p c q [] r = let h : [] ≡ first e v ∷ [] = rw (p, r) at f in snoc-some [] (first e v) h
-      by false p c q (x ∷ xs) r =
-          let h : first e (some x) ∷ [] ≡ first e v ∷ [] = rw (p, r) at f in
+      by : (b : Bool) → counted t e ≡ b → (c : Bool) → leb 1 (m .tokens e) ≡ c → (d : Bool) → isObjectNode (kind t (source t e)) ≡ d → (vs : List ℕ) → m .stock (source t e) ≡ vs → Small v
+      by true p true q d s vs r = let h : first e none ∷ [] ≡ first e v ∷ [] = rw (p, q) at f in subst Small (one-is h) tt
+      by true p false q d s vs r = let h : [] ≡ first e v ∷ [] = rw (p, q) at f in snoc-some [] (first e v) h
+      by false p c q false s vs r = let h : [] ≡ first e v ∷ [] = rw (p, s) at f in snoc-some [] (first e v) h
+      by false p c q true s [] r = let h : [] ≡ first e v ∷ [] = rw (p, s, r) at f in snoc-some [] (first e v) h
+      by false p c q true s (x ∷ xs) r =
+          let h : first e (some x) ∷ [] ≡ first e v ∷ [] = rw (p, s, r) at f in
           let z : x < 2 ^ 32 = rw r at (ok .values (source t e) 0) in
           subst Small (one-is h) z
 
@@ -254,9 +255,9 @@ module _ (t g : List ℕ) (m : Marking) (fine : tableFine t limits ≡ good tt) 
     agrees-all : (i : ℕ) → i < nodes t → agrees on c i ≡ true
     unfolding rule3
     agrees-all i l =
-        let a = unless-good 10 (rule1 on c) _ tt h in
-        let b = unless-good 11 (rule2 on c) _ tt (a .1) in
-        let d = unless-good 12 (rule3 on c) _ tt (b .1) in
+        let a = refuse-good 10 (rule1 on c) _ tt h in
+        let b = refuse-good 11 (rule2 on c) _ tt (a .1) in
+        let d = refuse-good 12 (rule3 on c) _ tt (b .1) in
         not-false (agrees on c i) (lowest-is-none (λ n. not (agrees on c n)) (nodes t) (d .0) i l)
 
     store-fits : (i : ℕ) → i < nodes t → isBuffer (kind t i) || isOutgoing (kind t i) ≡ true → length (m .stock i) + length (arrivals on c i) ≤ upper t i
@@ -271,7 +272,7 @@ module _ (t g : List ℕ) (m : Marking) (fine : tableFine t limits ≡ good tt) 
     action-fits a l k s =
         let r = and-true (isAction (kind t a) && any (belongs t a) (takenEnds on c) ⇒ actionAgrees on c a) _ (agrees-all a l) in
         let q = if-true (isAction (kind t a) && any (belongs t a) (takenEnds on c)) _ (r .0) (and-both (isAction (kind t a)) _ (eq-eqb (kind t a) 2 k) s) in
-        let u = and-true (not (m .runs a) && all (λ e. eqb (count (λ o. eqb (lastEdge o) e) (takenEnds on c)) 1) (into t a)) _ q in
+        let u = and-true (not (m .runs a) && all (λ e. eqb (count (λ o. eqb (lastEdge o) e) (takenEnds on c)) 1) (keep (isControl t) (into t a))) _ q in
         let v = and-true (not (m .runs a)) _ (u .0) in
         (not-true (m .runs a) (v .0), λ p i. within-is p (all-in (λ p. within (lower t p) (upper t p) (length (arrivals on c p))) (u .1) i))
       where

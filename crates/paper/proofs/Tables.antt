@@ -1,6 +1,6 @@
 -- What a good table says of its frame, nodes, edges and shape: rows 1 to 4 as facts. Assumes nothing.
 use mathlib.Core.Path.{_≡_}
-use Prim.Native.Nat.{ℕ, _-_, _≤_, _<_}
+use Prim.Native.Nat.{ℕ, _≤_, _<_}
 use native.Mathlib.Omega.{arith}
 use mathlib.Core.Bool.{Bool, true, false, not, _&&_, cond}
 use mathlib.Core.List.{List}
@@ -8,8 +8,8 @@ use lib.Dec.{leb, ltb, eqb}
 use lib.ListN.{length}
 use borrow.Author.Tests.{ltb-true, leb-true, le-leb, eqb-true, eq-eqb, not-true}
 use Rattle.paper.specs.Lists.{lowest, within}
-use Rattle.paper.specs.Answers.{good, unless}
-use Rattle.paper.specs.Limits.{Limits, limits}
+use Rattle.paper.specs.Answers.{good, refuseIf}
+use Rattle.paper.specs.Limits.{Limits}
 use Rattle.paper.specs.Bytes.{framed}
 use Rattle.paper.specs.Table.{version, nodes, edges, edgeAt, kind, owner, lower, upper, isPin, isAction, isObjectNode, isInput}
 use Rattle.paper.specs.Table.{edgeKind, source, target, guarded, isObject, mayLeave, mayEnter, frameFine, nodeFine, edgeFine}
@@ -51,17 +51,17 @@ facts-frame t l f =
     (eq-eqb (length t) (edgeAt t (edges t)) (f .all-of-it))
 
 -- ---- row 2: a node's fields
-pub record NodeFields (t : List ℕ) (i : ℕ) : Type 0 where
+pub record NodeFields (t : List ℕ) (l : Limits) (i : ℕ) : Type 0 where
   pub kind-from : 1 ≤ kind t i
   pub kind-to : kind t i ≤ 13
   pub owner-fine : cond (isPin (kind t i)) (ltb (owner t i) (nodes t) && isAction (kind t (owner t i))) (eqb (owner t i) 255) ≡ true
-  pub upper-fine : cond (isObjectNode (kind t i)) (within 1 (limits .mostUpper) (upper t i)) (eqb (upper t i) 0) ≡ true
+  pub upper-fine : cond (isObjectNode (kind t i)) (within 1 (l .mostUpper) (upper t i)) (eqb (upper t i) 0) ≡ true
   pub lower-fine : cond (isInput (kind t i)) (leb (lower t i) (upper t i)) (eqb (lower t i) 0) ≡ true
 
-pub node-facts : (t : List ℕ) (i : ℕ) → nodeFine t i ≡ true → NodeFields t i
+pub node-facts : (t : List ℕ) (l : Limits) (i : ℕ) → nodeFine t l i ≡ true → NodeFields t l i
 unfolding nodeFine
-node-facts t i h =
-    let u = cond (isObjectNode (kind t i)) (within 1 (limits .mostUpper) (upper t i)) (eqb (upper t i) 0) in
+node-facts t l i h =
+    let u = cond (isObjectNode (kind t i)) (within 1 (l .mostUpper) (upper t i)) (eqb (upper t i) 0) in
     let o = cond (isPin (kind t i)) (ltb (owner t i) (nodes t) && isAction (kind t (owner t i))) (eqb (owner t i) 255) in
     let a = and-true (within 1 13 (kind t i) && o && u) _ h in
     let b = and-true (within 1 13 (kind t i) && o) _ (a .0) in
@@ -69,12 +69,12 @@ node-facts t i h =
     let k = and-true (leb 1 (kind t i)) _ (c .0) in
     record { kind-from = leb-true _ _ (k .0); kind-to = leb-true _ _ (k .1); owner-fine = c .1; upper-fine = b .1; lower-fine = a .1 }
 
-upper-most : (c : Bool) (u : ℕ) → cond c (within 1 (limits .mostUpper) u) (eqb u 0) ≡ true → u ≤ limits .mostUpper
-upper-most true u h = leb-true u (limits .mostUpper) (and-true (leb 1 u) _ h .1)
-upper-most false u h = omega (arith, eqb-true u 0 h)
+upper-most : (c : Bool) (most u : ℕ) → cond c (within 1 most u) (eqb u 0) ≡ true → u ≤ most
+upper-most true most u h = leb-true u most (and-true (leb 1 u) _ h .1)
+upper-most false most u h = omega (arith, eqb-true u 0 h)
 
-pub upper-fits : {t : List ℕ} {i : ℕ} → NodeFields t i → upper t i ≤ limits .mostUpper
-upper-fits {t} {i} f = upper-most (isObjectNode (kind t i)) (upper t i) (f .upper-fine)
+pub upper-fits : {t : List ℕ} {l : Limits} {i : ℕ} → NodeFields t l i → upper t i ≤ l .mostUpper
+upper-fits {t} {l} {i} f = upper-most (isObjectNode (kind t i)) (l .mostUpper) (upper t i) (f .upper-fine)
 
 -- ---- row 3: an edge's fields, and its ends
 pub record EdgeFields (t : List ℕ) (j : ℕ) : Type 0 where
@@ -108,42 +108,42 @@ edge-facts t j h =
     }
 
 -- ---- row 4: the edges at a node, and the chains that end there
-pub record Shape (t : List ℕ) (i : ℕ) : Type 0 where
+pub record Shape (t : List ℕ) (l : Limits) (i : ℕ) : Type 0 where
   pub degrees : degreesFine t i ≡ true
   pub one-kind : oneKind t i ≡ true
   pub join : joinFine t i ≡ true
   pub action : actionFine t i ≡ true
-  pub no-chain : chain t (limits .longestPath - 1) i ≡ false
+  pub no-chain : chain t (l .chainTooLong) i ≡ false
 
-pub shape-facts : (t : List ℕ) (i : ℕ) → shapeFine t i ≡ true → Shape t i
+pub shape-facts : (t : List ℕ) (l : Limits) (i : ℕ) → shapeFine t l i ≡ true → Shape t l i
 unfolding shapeFine chainFine
-shape-facts t i h =
-    let r4 = and-true _ (chainFine t i) h in
+shape-facts t l i h =
+    let r4 = and-true _ (chainFine t l i) h in
     let r3 = and-true _ (actionFine t i) (r4 .0) in
     let r2 = and-true _ (joinFine t i) (r3 .0) in
     let r1 = and-true (degreesFine t i) _ (r2 .0) in
-    record { degrees = r1 .0; one-kind = r1 .1; join = r2 .1; action = r3 .1; no-chain = not-true (chain t (limits .longestPath - 1) i) (r4 .1) }
+    record { degrees = r1 .0; one-kind = r1 .1; join = r2 .1; action = r3 .1; no-chain = not-true (chain t (l .chainTooLong) i) (r4 .1) }
 
 -- ---- rows 1 to 4
 pub record GoodTable (t : List ℕ) (l : Limits) : Type 0 where
   pub frame : Frame t l
-  pub node : (i : ℕ) → i < nodes t → NodeFields t i
+  pub node : (i : ℕ) → i < nodes t → NodeFields t l i
   pub edge : (j : ℕ) → j < edges t → EdgeFields t j
-  pub shape : (i : ℕ) → i < nodes t → Shape t i
+  pub shape : (i : ℕ) → i < nodes t → Shape t l i
 
 pub table-good : (t : List ℕ) (l : Limits) → tableFine t l ≡ good tt → GoodTable t l
 unfolding tableFine
 table-good t l h =
     let r1 = need-good 1 (frameFine t l) _ tt h in
-    let r2 = row-good (unless 2 (lowest (λ i. not (nodeFine t i)) (nodes t))) _ tt (r1 .1) in
-    let r3 = row-good (unless 3 (lowest (λ j. not (edgeFine t j)) (edges t))) _ tt (r2 .2) in
+    let r2 = row-good (refuseIf 2 (lowest (λ i. not (nodeFine t l i)) (nodes t))) _ tt (r1 .1) in
+    let r3 = row-good (refuseIf 3 (lowest (λ j. not (edgeFine t j)) (edges t))) _ tt (r2 .2) in
     record {
       frame = frame-facts t l (r1 .0);
-      node = λ i k. node-facts t i (all-pass 2 (nodeFine t) (nodes t) (r2 .1) i k);
+      node = λ i k. node-facts t l i (all-pass 2 (nodeFine t l) (nodes t) (r2 .1) i k);
       edge = λ j k. edge-facts t j (all-pass 3 (edgeFine t) (edges t) (r3 .1) j k);
-      shape = λ i k. shape-facts t i (all-pass 4 (shapeFine t) (nodes t) (r3 .2) i k);
+      shape = λ i k. shape-facts t l i (all-pass 4 (shapeFine t l) (nodes t) (r3 .2) i k);
     }
 
--- the source of an edge ends no chain of 16 control nodes
-pub source-no-chain : {t : List ℕ} {l : Limits} → GoodTable t l → (j : ℕ) → j < edges t → chain t (limits .longestPath - 1) (source t j) ≡ false
+-- no chain of the forbidden length ends at the source of an edge
+pub source-no-chain : {t : List ℕ} {l : Limits} → GoodTable t l → (j : ℕ) → j < edges t → chain t (l .chainTooLong) (source t j) ≡ false
 source-no-chain {t} g j k = g .shape (source t j) (g .edge j k .source-fits) .no-chain

@@ -1,4 +1,5 @@
--- "a value (none on control edges)": on a good table an offer has a value exactly on an object edge. Assumes nothing.
+-- "a value (none on control edges)": on a good table an offer has a value exactly on an object edge, and what a join makes has the value of the
+-- object edge's offer. Assumes nothing.
 use mathlib.Core.Path.{_≡_, refl, sym, ap, ap₂, _∙_}
 use Prim.Native.Nat.{ℕ, zero, suc, _≤_, _<_}
 use native.Mathlib.Omega.{arith}
@@ -12,13 +13,13 @@ use borrow.Author.Tests.{eqb-true, eqb-false, leb-true, not-true}
 use Rattle.paper.specs.Lists.{all, any, count, _⇒_}
 use Rattle.paper.specs.Limits.{limits}
 use Rattle.paper.specs.Answers.{good}
-use Rattle.paper.specs.Table.{edges, kind, source, into, out, isInitial, isAction, isDecision, isMerge, isFork, isJoin, isControlNode, isObject, isControl, mayLeave, degreesFine, oneKind, joinFine, tableFine}
+use Rattle.paper.specs.Table.{edges, kind, source, into, out, isInitial, isAction, isDecision, isMerge, isFork, isJoin, isControlNode, isObjectNode, isObject, isControl, mayLeave, degreesFine, oneKind, joinFine, tableFine}
 use Rattle.paper.specs.Marking.{Marking, counted}
-use Rattle.paper.specs.Offers.{Offer, first, elem, value, lastEdge, orElse, firsts, offersOn, offers}
+use Rattle.paper.specs.Offers.{Offer, first, over, with, elem, parts, value, lastEdge, origins, madeAt, orElse, firsts, offersOn, offers}
 use Rattle.paper.proofs.Bools.{never, and-true, or-true, or-left, or-right, if-true}
-use Rattle.paper.proofs.Members.{In, here, later, append-left, append-right, any-in, all-in, any-count, only, snoc-some}
+use Rattle.paper.proofs.Members.{In, here, later, in-one, in-cons, in-equal, in-append, append-left, append-right, any-in, in-any, all-in, any-count, only, snoc-some}
 use Rattle.paper.proofs.Sameness.{elem-in, on-last}
-use Rattle.paper.proofs.Origins.{Handed, starts, extends, joins, Way, alone, beside, on-none, on-view, in-offers, in-into, out-in}
+use Rattle.paper.proofs.Origins.{Handed, starts, extends, joins, Way, alone, beside, way-from, on-none, on-view, in-offers, in-into, out-in}
 use Rattle.paper.proofs.Tables.{table-good, Shape}
 
 abbrev pub isSome : Option ℕ → Bool
@@ -60,20 +61,21 @@ module _ (t : List ℕ) (m : Marking) (e : ℕ) where
   unfolding firsts counted
   first-value {v} h c f = by (isObject t e) refl h
     where
-      old : (vs : List ℕ) → m .stock (source t e) ≡ vs → isObject t e ≡ true → isSome v ≡ true
-      old [] q b = let g : [] ≡ first e v ∷ [] = rw (b, q) at f in snoc-some [] (first e v) g
-      old (w ∷ ws) q b = let g : first e (some w) ∷ [] ≡ first e v ∷ [] = rw (b, q) at f in ap isSome (one-is (sym g))
+      old : (d : Bool) → isObjectNode (kind t (source t e)) ≡ d → (vs : List ℕ) → m .stock (source t e) ≡ vs → isObject t e ≡ true → isSome v ≡ true
+      old false o vs q b = let g : [] ≡ first e v ∷ [] = rw (b, o) at f in snoc-some [] (first e v) g
+      old true o [] q b = let g : [] ≡ first e v ∷ [] = rw (b, o, q) at f in snoc-some [] (first e v) g
+      old true o (w ∷ ws) q b = let g : first e (some w) ∷ [] ≡ first e v ∷ [] = rw (b, o, q) at f in ap isSome (one-is (sym g))
 
       counts : (b : Bool) → leb 1 (m .tokens e) ≡ b → isObject t e ≡ false → isInitial (kind t (source t e)) || isAction (kind t (source t e)) ≡ true → isSome v ≡ false
       counts true q b i = let g : first e none ∷ [] ≡ first e v ∷ [] = rw (b, i, q) at f in ap isSome (one-is (sym g))
       counts false q b i = let g : [] ≡ first e v ∷ [] = rw (b, i, q) at f in snoc-some [] (first e v) g
 
       by : (b : Bool) → isObject t e ≡ b → mayLeave b (kind t (source t e)) ≡ true → isSome v ≡ isObject t e
-      by true b h = old (m .stock (source t e)) refl b ∙ sym b
+      by true b h = old (isObjectNode (kind t (source t e))) refl (m .stock (source t e)) refl b ∙ sym b
       by false b h = counts (leb 1 (m .tokens e)) refl b (leaves-first (kind t (source t e)) h c) ∙ sym b
 
 module _ (t : List ℕ) (g : tableFine t limits ≡ good tt) (e : ℕ) (l : e < edges t) where
-  at-source : Shape t (source t e)
+  at-source : Shape t limits (source t e)
   at-source = let f = table-good t limits g in f .shape (source t e) (f .edge e l .source-fits)
 
   -- "All edges at a decision, merge or fork have one kind."
@@ -154,3 +156,114 @@ module _ (t : List ℕ) (goes : ℕ → Option ℕ → Bool) (m : Marking) (g : 
   offer-value o k =
       let r = in-offers t goes m (elem-in (offers t goes m) k) in
       value-on (limits .longestPath) (r .0) (r .1) (r .2) ∙ ap (isObject t) (sym (on-last t goes m (limits .longestPath) (r .0) (r .2)))
+
+-- ---- "The value is that of the object edge's offer."
+-- of the offer o, made at a join: it was joined from one offer on every incoming edge; the value is that of the one on the object edge, and none
+-- where there is no object edge
+pub record ObjectEdgesValue (t : List ℕ) (o : Offer) : Type 0 where
+  pub one-each : (j : ℕ) → In j (into t (madeAt t o)) → (p : Offer) × In p (origins o) × (lastEdge p ≡ j)
+  pub is-that : (p : Offer) → In p (origins o) → isObject t (lastEdge p) ≡ true → value o ≡ value p
+  pub none-without : any (isObject t) (into t (madeAt t o)) ≡ false → value o ≡ none
+
+with-parts : (o p : Offer) → parts (with o p) ≡ parts o ++ parts p
+unfolding parts
+with-parts o p = refl
+
+part-left : (o w : Offer) {p : Offer} → In p (parts o) → In p (parts (with o w))
+unfolding parts
+part-left o w m = append-left (parts w) m
+
+part-right : (o w : Offer) {p : Offer} → In p (parts w) → In p (parts (with o w))
+unfolding parts
+part-right o w m = append-right (parts o) m
+
+no-value : (v : Option ℕ) → isSome v ≡ false → v ≡ none
+no-value none h = refl
+no-value (some x) h = never true refl h
+
+module _ (t : List ℕ) (on : ℕ → List Offer) (alone-parts : (j : ℕ) (o : Offer) → In o (on j) → parts o ≡ o ∷ []) (last : (j : ℕ) (o : Offer) → In o (on j) → lastEdge o ≡ j) where
+  way-each : {js : List ℕ} {w : Offer} → Way t on js w → (j : ℕ) → In j js → (p : Offer) × In p (parts w) × (lastEdge p ≡ j)
+  way-each (alone {j = j} {o = o} k) i m = (o, rw (alone-parts j o k) (here refl), last j o k ∙ sym (in-one m))
+  way-each (beside {j = j} {o = o} {w = w} k r c) i m =
+      ⊎-elim (λ e. (o, part-left o w (rw (alone-parts j o k) (here refl)), last j o k ∙ sym e))
+      (λ l. let s = way-each r i l in (s .0, part-right o w (s .1), s .2)) (in-cons m)
+
+  -- the edges that the parts are on
+  part-edge : {js : List ℕ} {w : Offer} → Way t on js w → (p : Offer) → In p (parts w) → In (lastEdge p) js
+  part-edge v p m =
+      let s = way-from t on parts with-parts v m in
+      let e : p ≡ s .1 = in-one (rw (alone-parts (s .0) (s .1) (s .3)) at (s .4)) in
+      in-equal (ap lastEdge e ∙ last (s .0) (s .1) (s .3)) (s .2)
+
+  way-object : ((j : ℕ) (o : Offer) → j < edges t → In o (on j) → isSome (value o) ≡ isObject t j)
+      → {js : List ℕ} {w : Offer} → ((j : ℕ) → In j js → j < edges t) → Way t on js w → count (isObject t) js ≤ 1
+      → (p : Offer) → In p (parts w) → isObject t (lastEdge p) ≡ true → value w ≡ value p
+  unfolding value
+  way-object h l (alone {j = j} {o = o} k) one p m b = ap value (sym (in-one (rw (alone-parts j o k) at m)))
+  way-object h l (beside {j = j} {k = i} {js = js} {o = o} {w = w} k r c) one p m b =
+      ⊎-elim (λ q. mine (in-one (rw (alone-parts j o k) at q))) (λ q. theirs q (λ u. way-object h (λ a d. l a (later d)) r u p q b)) (in-append (parts o) (rw (with-parts o w) at m))
+    where
+      held : (v u : Option ℕ) → isSome v ≡ true → orElse v u ≡ v
+      held none u e = never false e refl
+      held (some x) u e = refl
+
+      mine : p ≡ o → orElse (value o) (value w) ≡ value p
+      mine e =
+          held (value o) (value w) (h j o (l j (here refl)) k ∙ ap (isObject t) (sym (last j o k) ∙ ap lastEdge (sym e)) ∙ b)
+          ∙ ap value (sym e)
+
+      -- an object edge among the others: this one is none
+      theirs : In p (parts w) → (count (isObject t) (i ∷ js) ≤ 1 → value w ≡ value p) → orElse (value o) (value w) ≡ value p
+      theirs q rest = by (isObject t j) refl one
+        where
+          others : 1 ≤ count (isObject t) (i ∷ js)
+          others = leb-true 1 _ (sym (any-count (isObject t) (i ∷ js)) ∙ in-any (isObject t) (part-edge r p q) b)
+
+          by : (x : Bool) → isObject t j ≡ x → cond x (suc (count (isObject t) (i ∷ js))) (count (isObject t) (i ∷ js)) ≤ 1 → orElse (value o) (value w) ≡ value p
+          by true e u = let z : ⊥ = omega (arith, others, u) in absurd z
+          by false e u =
+              ap (λ (v : Option ℕ). orElse v (value w)) (no-value (value o) (h j o (l j (here refl)) k ∙ e))
+              ∙ rest u
+
+module _ (t : List ℕ) (goes : ℕ → Option ℕ → Bool) (m : Marking) (g : tableFine t limits ≡ good tt) where
+  handed-parts : (n e : ℕ) {o : Offer} → In o (offersOn t goes m n e) → parts o ≡ o ∷ []
+  unfolding parts
+  handed-parts zero e k = absurd (on-none t goes m e k)
+  handed-parts (suc n) e k = by (on-view t goes m n e k)
+    where
+      by : {o : Offer} → Handed t m (offersOn t goes m n) e o → parts o ≡ o ∷ []
+      by (starts c f) = refl
+      by (extends c d i u) = refl
+      by (joins c d v) = refl
+
+  -- what a join hands on to edge e
+  joined-value : (n e : ℕ) {o : Offer} → e < edges t → isJoin (kind t (source t e)) ≡ true → In o (offersOn t goes m n e) → ObjectEdgesValue t o
+  unfolding joinFine value origins lastEdge
+  joined-value zero e l d k = absurd (on-none t goes m e k)
+  joined-value (suc n) e l d k = by (on-view t goes m n e k)
+    where
+      control : isControlNode (kind t (source t e)) ≡ true
+      control = ap isControlNode (eqb-true (kind t (source t e)) 11 d)
+
+      few : count (isObject t) (into t (source t e)) ≤ 1
+      few = leb-true _ 1 (and-true (leb (count (isObject t) (into t (source t e))) 1) _ (if-true _ _ (at-source t g e l .join) d) .0)
+
+      inside : (j : ℕ) → In j (into t (source t e)) → j < edges t
+      inside j i = in-into t (source t e) i .0
+
+      valued : (j : ℕ) (o : Offer) → j < edges t → In o (offersOn t goes m n j) → isSome (value o) ≡ isObject t j
+      valued j o a b = value-on t goes m g n j a b
+
+      by : {o : Offer} → Handed t m (offersOn t goes m n) e o → ObjectEdgesValue t o
+      by (starts c f) = never _ control c
+      by (extends c f i u) = never _ d f
+      by (joins {w = w} c f v) = record {
+        one-each = way-each t (offersOn t goes m n) (λ j o. handed-parts n j) (λ j o. on-last t goes m n j) v;
+        is-that = way-object t (offersOn t goes m n) (λ j o. handed-parts n j) (λ j o. on-last t goes m n j) valued inside v few;
+        none-without = λ h. no-value (value w) (way-value t (offersOn t goes m n) valued inside v ∙ h);
+      }
+
+  pub value-of-object-edge : (o : Offer) → elem o (offers t goes m) ≡ true → isJoin (kind t (madeAt t o)) ≡ true → ObjectEdgesValue t o
+  value-of-object-edge o k d =
+      let r = in-offers t goes m (elem-in (offers t goes m) k) in
+      joined-value (limits .longestPath) (r .0) (r .1) (ap (λ j. isJoin (kind t (source t j))) (sym (on-last t goes m (limits .longestPath) (r .0) (r .2))) ∙ d) (r .2)

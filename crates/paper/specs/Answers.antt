@@ -16,10 +16,10 @@ abbrev pub _>>=_ : {A B : Type 0} → Answer A → (A → Answer B) → Answer B
 _>>=_ (refused n p) f = refused n p
 _>>=_ (good a) f = f a
 
--- row n: refused at the place found, if one is found
-abbrev pub unless : ℕ → Option ℕ → Answer (Unit {0})
-unless n none = good tt
-unless n (some p) = refused n p
+-- row n: refused if a place is found, at that place
+abbrev pub refuseIf : ℕ → Option ℕ → Answer (Unit {0})
+refuseIf n none = good tt
+refuseIf n (some p) = refused n p
 
 -- row n: refused at place 0 unless the test passes
 abbrev pub need : ℕ → Bool → Answer (Unit {0})
@@ -34,7 +34,7 @@ known n (some a) = good a
 -- rules with their numbers, each of which may find a place: the first that does refuses
 abbrev pub judgedBy : {A : Type 0} → List (ℕ × (A → Option ℕ)) → A → Answer (Unit {0})
 judgedBy [] a = good tt
-judgedBy (r ∷ rs) a = unless (r .0) (r .1 a) >>= (λ u. judgedBy rs a)
+judgedBy (r ∷ rs) a = refuseIf (r .0) (r .1 a) >>= (λ u. judgedBy rs a)
 
 abbrev pub isGood : {A : Type 0} → Answer A → Bool
 isGood (refused n p) = false

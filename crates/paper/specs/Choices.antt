@@ -10,7 +10,7 @@ use lib.ListN.{length, getD, drop}
 use Rattle.paper.specs.Lists.{has, below, all, any, keep, find, count, gather, each, lowest, within, _⇒_}
 use Rattle.paper.specs.Answers.{Answer, good, _>>=_, need, known, judgedBy, isGood}
 use Rattle.paper.specs.Limits.{limits}
-use Rattle.paper.specs.Table.{nodes, kind, lower, upper, into, out, inputs, isAction, isBuffer, isOutgoing, isObjectNode, isFork, isActivityFinal, tableFine}
+use Rattle.paper.specs.Table.{nodes, kind, lower, upper, into, out, inputs, isControl, isAction, isBuffer, isOutgoing, isObjectNode, isFork, isActivityFinal, tableFine}
 use Rattle.paper.specs.Marking.{Marking, marking, endedOf}
 use Rattle.paper.specs.Offers.{Offer, first, lastEdge, value, makers, origins, elem, compete, isFirst, madeAt, targetOf, belongs, guardsFine, goesOver, offers, ends, sizesFine}
 
@@ -81,11 +81,11 @@ module _ (d : Board) (c : ℕ) where
 
   -- ---- "3. each destination agrees": the lowest that doesn't
   -- "An action with any taken end is idle, has exactly one taken end on each incoming control edge, and on each input pin the number of ends taken
-  -- lies between lower and upper." (Only control edges enter an action.)
+  -- lies between lower and upper."
   unfoldable pub actionAgrees : ℕ → Bool
   actionAgrees n =
       not (d .current .runs n)
-      && all (λ e. eqb (count (λ o. eqb (lastEdge o) e) takenEnds) 1) (into t n)
+      && all (λ e. eqb (count (λ o. eqb (lastEdge o) e) takenEnds) 1) (keep (isControl t) (into t n))
       && all (λ p. within (lower t p) (upper t p) (length (arrivals p))) (inputs t n)
 
   -- "Buffers and outgoing parameters: stock before the step plus ends taken is at most upper. Finals take any number."

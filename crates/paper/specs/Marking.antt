@@ -112,7 +112,7 @@ module _ (t : List ℕ) where
     tokens = λ e. 0;
   }
 
--- where the layout has a field: a stock, a running byte, a count
+-- where the layout has a field: a stock, a running byte, a count. Start and finish ask for a count; the other two are for `Good` alone
 abbrev pub hasStock : List ℕ → ℕ → Bool
 hasStock t i = ltb i (nodes t) && isObjectNode (kind t i)
 
@@ -122,8 +122,8 @@ hasRuns t i = ltb i (nodes t) && isAction (kind t i)
 abbrev pub hasTokens : List ℕ → ℕ → Bool
 hasTokens t j = ltb j (edges t) && counted t j
 
--- a marking of the table: "A stock never exceeds upper.", values have four bytes, counts are "0 to 255", pins and an ended marking are as they
--- should be, and nothing stands where the layout has no field
+-- For laws and the contracts of parts: no operation is defined by it. A marking of the table, said without bytes: "A stock never exceeds upper.", values have
+-- four bytes, counts are "0 to 255", pins and an ended marking are as they should be, and nothing stands where the layout has no field
 pub record Good (t : List ℕ) (m : Marking) : Type 0 where
   pub stocks : (i : ℕ) → length (m .stock i) ≤ cond (hasStock t i) (upper t i) 0
   pub values : (i k : ℕ) → at (m .stock i) k < 2 ^ 32

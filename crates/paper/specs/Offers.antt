@@ -32,7 +32,8 @@ abbrev pub orElse : Option ℕ → Option ℕ → Option ℕ
 orElse none w = w
 orElse (some v) w = some v
 
--- "a value (none on control edges)"; at a join "The value is that of the object edge's offer."
+-- "a value (none on control edges)"; at a join "The value is that of the object edge's offer.": of those taken together no other has one, so it is the
+-- first that is found (`Values.value-of-object-edge`)
 unfoldable pub value : Offer → Option ℕ
 value (first e v) = v
 value (over o e) = value o
@@ -102,7 +103,7 @@ module _ (t : List ℕ) where
 
   -- "(a) first offers of the same object node"
   unfoldable pub ofOneStock : Offer → Offer → Bool
-  ofOneStock o p = eqb (madeAt o) (madeAt p) && isObjectNode (kind t (madeAt o))
+  ofOneStock o p = isFirst o && isFirst p && eqb (madeAt o) (madeAt p) && isObjectNode (kind t (madeAt o))
 
   -- "(b) extensions of the same offer at the same decision"
   unfoldable pub ofOneDecision : Offer → Offer → Bool
@@ -129,7 +130,7 @@ module _ (t : List ℕ) where
   unfoldable pub firsts : Marking → ℕ → List Offer
   firsts m e =
       cond (counted t e) (cond (leb 1 (m .tokens e)) (first e none ∷ []) [])
-      (oldest e (m .stock (source t e)))
+      (cond (isObjectNode (kind t (source t e))) (oldest e (m .stock (source t e))) [])
 
   -- "for each way of taking one offer from every incoming edge, no two competing"
   unfoldable pub ways : List (List Offer) → List Offer

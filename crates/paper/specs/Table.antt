@@ -1,13 +1,13 @@
 -- "Table": its bytes, read at offsets, and rows 1 to 4. Assumes nothing.
-use Prim.Native.Nat.{ℕ, zero, suc, _+_, _*_, _-_}
+use Prim.Native.Nat.{ℕ, zero, suc, _+_, _*_}
 use mathlib.Core.Bool.{Bool, true, false, not, _&&_, _||_, cond}
 use mathlib.Core.List.{List, [], _∷_, _++_}
 use lib.Dec.{leb, ltb, eqb}
 use lib.ListN.{length}
 use Rattle.paper.specs.Lists.{at, below, all, any, keep, count, lowest, within, _⇒_}
-use Rattle.paper.specs.Answers.{Answer, _>>=_, unless, need}
+use Rattle.paper.specs.Answers.{Answer, _>>=_, refuseIf, need}
 use Rattle.paper.specs.Bytes.{framed}
-use Rattle.paper.specs.Limits.{Limits, limits}
+use Rattle.paper.specs.Limits.{Limits}
 
 -- ---- "Kinds: 1 initial, 2 action, 3 input pin, 4 output pin, 5 central buffer, 6 incoming parameter, 7 outgoing parameter, 8 decision, 9 merge, 10
 -- fork, 11 join, 12 flow final, 13 activity final."
@@ -82,10 +82,10 @@ module _ (t : List ℕ) where
   version = at t 2
 
   unfoldable pub nodes : ℕ
-  nodes = at t (header - 2)
+  nodes = at t 3
 
   unfoldable pub edges : ℕ
-  edges = at t (header - 1)
+  edges = at t 4
 
   -- "n nodes of 4 bytes, e edges of 4 bytes"
   abbrev pub nodeAt : ℕ → ℕ
@@ -147,11 +147,11 @@ module _ (t : List ℕ) where
       && eqb (length t) (edgeAt edges)
 
   -- ---- row 2: "Owner: an action's number for pins, else 255. Upper: 1 to 16 for kinds 3 to 7, else 0. Lower: 0 to upper for input pins, else 0."
-  unfoldable pub nodeFine : ℕ → Bool
-  nodeFine i =
+  unfoldable pub nodeFine : Limits → ℕ → Bool
+  nodeFine l i =
       within 1 13 (kind i)
       && cond (isPin (kind i)) (ltb (owner i) nodes && isAction (kind (owner i))) (eqb (owner i) 255)
-      && cond (isObjectNode (kind i)) (within 1 (limits .mostUpper) (upper i)) (eqb (upper i) 0)
+      && cond (isObjectNode (kind i)) (within 1 (l .mostUpper) (upper i)) (eqb (upper i) 0)
       && cond (isInput (kind i)) (leb (lower i) (upper i)) (eqb (lower i) 0)
 
   -- ---- row 3: an edge's fields, and its ends
@@ -183,22 +183,23 @@ module _ (t : List ℕ) where
   unfoldable pub actionFine : ℕ → Bool
   actionFine i = isAction (kind i) ⇒ any isControl (into i) || any (λ p. leb 1 (lower p)) (inputs i)
 
-  -- a chain of k + 1 control nodes, "repeats allowed, each linked to the next by an edge", ends at node i
+  -- a chain of n control nodes, "repeats allowed, each linked to the next by an edge", ends at node i; one of none ends anywhere
   unfoldable pub chain : ℕ → ℕ → Bool
-  chain zero i = isControlNode (kind i)
-  chain (suc k) i = isControlNode (kind i) && any (λ j. chain k (source j)) (into i)
+  chain zero i = true
+  chain (suc zero) i = isControlNode (kind i)
+  chain (suc (suc n)) i = isControlNode (kind i) && any (λ j. chain (suc n) (source j)) (into i)
 
   -- "No chain of 16 control nodes (..) ends at the node."
-  unfoldable pub chainFine : ℕ → Bool
-  chainFine i = not (chain (limits .longestPath - 1) i)
+  unfoldable pub chainFine : Limits → ℕ → Bool
+  chainFine l i = not (chain (l .chainTooLong) i)
 
-  unfoldable pub shapeFine : ℕ → Bool
-  shapeFine i = degreesFine i && oneKind i && joinFine i && actionFine i && chainFine i
+  unfoldable pub shapeFine : Limits → ℕ → Bool
+  shapeFine l i = degreesFine i && oneKind i && joinFine i && actionFine i && chainFine l i
 
-  -- ---- rows 1 to 4
+  -- ---- rows 1 to 4, under the limits l
   unfoldable pub tableFine : Limits → Answer (Unit {0})
   tableFine l = do
     _ ← need 1 (frameFine l)
-    _ ← unless 2 (lowest (λ i. not (nodeFine i)) nodes)
-    _ ← unless 3 (lowest (λ j. not (edgeFine j)) edges)
-    unless 4 (lowest (λ i. not (shapeFine i)) nodes)
+    _ ← refuseIf 2 (lowest (λ i. not (nodeFine l i)) nodes)
+    _ ← refuseIf 3 (lowest (λ j. not (edgeFine j)) edges)
+    refuseIf 4 (lowest (λ i. not (shapeFine l i)) nodes)

@@ -9,9 +9,10 @@ use lib.Dec.{eqb, leb}
 use lib.ListN.{length, getD}
 use Rattle.paper.specs.Lists.{all, each, gather, keep, below}
 use Rattle.paper.specs.Limits.{limits}
-use Rattle.paper.specs.Table.{edges, source, target, kind, into}
+use Rattle.paper.specs.Table.{edges, source, target, kind, into, isControlNode}
 use Rattle.paper.specs.Offers.{Offer, first, over, with, lastEdge, value, paths, makers, origins}
 use Rattle.paper.proofs.Members.{In, Distinct}
+use Rattle.paper.proofs.Competing.{StockFirst}
 use Rattle.words.specs.Clash.{hit}
 use Rattle.rows.specs.Sets.{nth, Means, Foes, Marks}
 
@@ -93,6 +94,7 @@ pub record Row (t : List ℕ) (ts : List Offer) (x : Offer) (r : Entry) : Type 0
   pub offer : isOffer x ≡ true
   pub last-is : r .last ≡ lastEdge x
   pub node-is : r .node ≡ source t (lastEdge x)
+  pub stock-first : StockFirst t x
   pub value-is : valueOf (r .has) (r .value) ≡ value x
   pub paths-are : r .paths ≡ length (paths x)
   pub few : length (paths x) ≤ limits .mostPaths
@@ -134,6 +136,7 @@ pub record Ready (t : List ℕ) (r : Rows) (ts : List Offer) (x : Offer) (l n k 
   pub last-is : l ≡ lastEdge x
   pub node-is : n ≡ source t (lastEdge x)
   pub kind-is : k ≡ kind t n
+  pub stock-first : StockFirst t x
   pub value-is : valueOf h v ≡ value x
   pub paths-are : p ≡ length (paths x)
   pub few : length (paths x) ≤ limits .mostPaths
@@ -169,10 +172,11 @@ pub record Led (m m' : List ℕ) (c at j n : ℕ) : Type 0 where
   pub old : (x : ℕ) → x < 16 * c + 8 + at → getD m' x 0 ≡ getD m x 0
   pub new : (k : ℕ) → k < n → at + k < 8 → getD m' (16 * c + 8 + (at + k)) 0 ≡ 8 * j + k + 1
 
--- edge e leaves node n, of kind k
+-- edge e leaves the control node n, of kind k
 pub record Leaves (t : List ℕ) (e n k : ℕ) : Type 0 where
   pub node-is : n ≡ source t e
   pub kind-is : k ≡ kind t n
+  pub control : isControlNode (kind t (source t e)) ≡ true
 
 -- xs, in ts from a to b, are to be extended over e, which leaves node n of kind k
 pub record Ext (t : List ℕ) (r : Rows) (ts xs : List Offer) (a b e n k : ℕ) : Type 0 where
@@ -203,4 +207,5 @@ startOf e c v = cond (eqb c 0) [] (first e (valueOf (c - 1) v) ∷ [])
 pub record Begin (t : List ℕ) (r : Rows) (ts : List Offer) (e s k c v : ℕ) : Type 0 where
   pub holds-ts : Holds t r ts
   pub distinct : Distinct (ts ++ startOf e c v)
-  pub leaves : Leaves t e s k
+  pub node-is : s ≡ source t e
+  pub kind-is : k ≡ kind t s

@@ -5,7 +5,7 @@ use mathlib.Core.Bool.{Bool, true, false, not, _&&_, _||_, cond, Bool·not-not}
 use mathlib.Core.List.{List, [], _∷_}
 use mathlib.Core.Option.{Option, none, some}
 use Rattle.paper.specs.Lists.{has, below, all, find}
-use Rattle.paper.specs.Answers.{_>>=_, unless, judgedBy, isGood}
+use Rattle.paper.specs.Answers.{_>>=_, refuseIf, judgedBy, isGood}
 use Rattle.paper.specs.Table.{nodes, kind, isFork}
 use Rattle.paper.specs.Offers.{Offer}
 use Rattle.paper.specs.Choices.{Board, rule1, rule2, rule3, rules, acceptable}
@@ -35,7 +35,7 @@ judged-clear [] a = refl
 judged-clear (r ∷ rs) a = by (r .1 a) (judged-clear rs a)
   where
     by : (x : Option ℕ) → isGood (judgedBy rs a) ≡ all (λ r. clear (r .1 a)) rs
-        → isGood (unless (r .0) x >>= (λ u. judgedBy rs a)) ≡ clear x && all (λ r. clear (r .1 a)) rs
+        → isGood (refuseIf (r .0) x >>= (λ u. judgedBy rs a)) ≡ clear x && all (λ r. clear (r .1 a)) rs
     by none e = e
     by (some k) e = refl
 

@@ -9,13 +9,16 @@ use lib.Dec.{eqb, leb}
 use lib.ListN.{length}
 use borrow.Author.Tests.{eq-eqb, eqb-true}
 use Rattle.paper.specs.Lists.{at, has, below, all, any, count, keep, lowest, oneIf, within, _⇒_}
-use Rattle.paper.specs.Table.{nodes, kind, owner, lower, upper, into, inputs, isAction, isPin, isFork, isBuffer, isOutgoing, isObjectNode}
+use Rattle.paper.specs.Limits.{limits}
+use Rattle.paper.specs.Answers.{good}
+use Rattle.paper.specs.Table.{nodes, kind, owner, lower, upper, into, inputs, isAction, isPin, isFork, isBuffer, isOutgoing, isObjectNode, tableFine}
 use Rattle.paper.specs.Marking.{Marking}
 use Rattle.paper.specs.Offers.{Offer, lastEdge, makers, origins, elem, compete, madeAt, targetOf, belongs}
 use Rattle.paper.specs.Choices.{Board, howMany, end, taken, takenEnds, arrivals, takenMakers, rule1, passedWhole, rule2, actionAgrees, agrees, rule3}
 use Rattle.paper.proofs.Bools.{and-true, and-both, or-true, if-true, iff}
 use Rattle.paper.proofs.Members.{In, in-gather, gather-in, any-in, in-any, all-in, in-all, in-below, below-in}
 use Rattle.paper.proofs.Counts.{any-keep}
+use Rattle.paper.proofs.Actions.{agrees-every-edge}
 use Rattle.paper.proofs.Sameness.{elem-in, in-elem}
 use Rattle.rows.specs.Sets.{nth}
 use Rattle.rows.specs.Rows.{Row}
@@ -37,8 +40,9 @@ if-alike : (a b c : Bool) → (a ≡ true → b ≡ c) → a ⇒ b ≡ a ⇒ c
 if-alike true b c f = f refl
 if-alike false b c f = refl
 
--- runs and stock are what the marking m says of actions and of object nodes
+-- t is a table, and runs and stock are what the marking m says of its actions and of its object nodes
 pub record Told (t : List ℕ) (m : Marking) (runs stock : List ℕ) : Type 0 where
+  pub table-fine : tableFine t limits ≡ good tt
   pub running : (i : ℕ) → i < nodes t → isAction (kind t i) ≡ true → at runs i ≡ oneIf (m .runs i)
   pub stocks : (i : ℕ) → i < nodes t → isObjectNode (kind t i) ≡ true → at stock i ≡ length (m .stock i)
 
@@ -178,9 +182,10 @@ module _ (t : List ℕ) (d : Board) (o : Offers) (links : List ℕ) (ts : List O
 
     module _ (runs stock : List ℕ) (m : Told t (d .current) runs stock) where
       action-rows : (i : ℕ) → i < nodes t → isAction (kind t i) ≡ true → actionAgrees d c i ≡ actionFits (d .table) edge target home runs stock n c i
-      unfolding actionAgrees actionFits
+      unfolding actionFits
       action-rows i l a =
-          ap₂ (λ (x y : Bool). x && y)
+          agrees-every-edge d c i (rw (s .table-is) (m .table-fine)) (rw (s .table-is) a)
+          ∙ ap₂ (λ (x y : Bool). x && y)
           (ap₂ (λ (x y : Bool). x && y) (idle (d .current .runs i) ∙ ap (λ (x : ℕ). eqb x 0) (sym (m .running i l a)))
           (all-alike (λ e. eqb (count (λ x. eqb (lastEdge x) e) (takenEnds d c)) 1) (λ e. eqb (seats edge n c e) 1) (into (d .table) i) (λ e h. ap (λ (x : ℕ). eqb x 1) (edge-rows e))))
           (all-alike (λ p. within (lower (d .table) p) (upper (d .table) p) (length (arrivals d c p))) (λ p. within (lower (d .table) p) (upper (d .table) p) (seats target n c p)) (inputs (d .table) i)

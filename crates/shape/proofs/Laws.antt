@@ -18,10 +18,10 @@ use Rattle.paper.specs.Table.{nodes, edges, kind, owner, lower, isInput, isOutp
 use Rattle.paper.proofs.Bools.{and-both, or-left, iff}
 use Rattle.paper.proofs.Bools.{and-true as and-true-both, or-true as or-true-cases}
 use Rattle.paper.proofs.Counts.{count-below, count-below-same, any-below, count-keep, length-count}
-use Rattle.paper.proofs.Shapes.{all-object, all-control, pin-owner, chain-over}
-use Rattle.paper.proofs.Tables.{edge-facts, EdgeFields}
+use Rattle.paper.proofs.Fuel.{no-longer}
+use Rattle.paper.proofs.Shapes.{all-object, all-control, pin-owner}
+use Rattle.paper.proofs.Tables.{EdgeFields}
 use Rattle.shape.specs.declared.Degrees.{Degrees}
-use Rattle.table.specs.Reading.{EdgesFine}
 use Rattle.shape.specs.Shape.{Counts, Tallied, Chained, leadsOn, marked, ofOneKind, splitFine, mergeFine, joinShape, actionShape}
 
 -- ---- marks: one step further
@@ -58,8 +58,8 @@ pub marks-done : (q : ℕ → Bool) (f : ℕ → ℕ) (m : List ℕ) (j n a : �
 marks-done q f m j n a b h e v = h a ∙ ap oneIf (ap (λ (y : ℕ). any (λ x. q x && eqb (f x) a) (below y)) e ∙ v)
 
 -- a pin that feeds has an action
-pub feeder-owner : (t : List ℕ) (i : ℕ) → nodeFine t i ≡ true → isInput (kind t i) && leb 1 (lower t i) ≡ true → owner t i < nodes t
-feeder-owner t i h e = pin-owner t i h (or-left (isInput (kind t i)) (isOutput (kind t i)) (and-true-both (isInput (kind t i)) (leb 1 (lower t i)) e .0))
+pub feeder-owner : (t : List ℕ) (i : ℕ) → nodeFine t limits i ≡ true → isInput (kind t i) && leb 1 (lower t i) ≡ true → owner t i < nodes t
+feeder-owner t i h e = pin-owner t limits i h (or-left (isInput (kind t i)) (isOutput (kind t i)) (and-true-both (isInput (kind t i)) (leb 1 (lower t i)) e .0))
 
 -- ---- tallies: edge j counts in cell c
 abbrev pub hits : List ℕ → ℕ → ℕ → Bool
@@ -179,28 +179,28 @@ module _ (t : List ℕ) (i : ℕ) (d : Degrees) (h : Counts t i d) where
       (all-control t (into t i) (out t i) ∙ neither (h .object-in) (h .object-out))
 
 -- ---- row 4 by kind, where no chain of the forbidden length ends
-module _ (t : List ℕ) (i : ℕ) (free : chain t (limits .longestPath - 1) i ≡ false) where
-  pub at-action : kind t i ≡ 2 → actionShape t i ≡ shapeFine t i
+module _ (t : List ℕ) (i : ℕ) (free : chain t (limits .chainTooLong) i ≡ false) where
+  pub at-action : kind t i ≡ 2 → actionShape t i ≡ shapeFine t limits i
   unfolding shapeFine degreesFine oneKind joinFine actionFine chainFine
   at-action e = sym (simp (e, free, and-true))
 
-  pub at-decision : kind t i ≡ 8 → splitFine t i ≡ shapeFine t i
+  pub at-decision : kind t i ≡ 8 → splitFine t i ≡ shapeFine t limits i
   unfolding shapeFine degreesFine oneKind joinFine actionFine chainFine
   at-decision e = sym (simp (e, free, and-true))
 
-  pub at-merge : kind t i ≡ 9 → mergeFine t i ≡ shapeFine t i
+  pub at-merge : kind t i ≡ 9 → mergeFine t i ≡ shapeFine t limits i
   unfolding shapeFine degreesFine oneKind joinFine actionFine chainFine
   at-merge e = sym (simp (e, free, and-true))
 
-  pub at-fork : kind t i ≡ 10 → splitFine t i ≡ shapeFine t i
+  pub at-fork : kind t i ≡ 10 → splitFine t i ≡ shapeFine t limits i
   unfolding shapeFine degreesFine oneKind joinFine actionFine chainFine
   at-fork e = sym (simp (e, free, and-true))
 
-  pub at-join : kind t i ≡ 11 → joinShape t i ≡ shapeFine t i
+  pub at-join : kind t i ≡ 11 → joinShape t i ≡ shapeFine t limits i
   unfolding shapeFine degreesFine oneKind joinFine actionFine chainFine
   at-join e = sym (simp (e, free, and-true))
 
-  pub at-rest : (kind t i ≡ 2 → ⊥) → (kind t i ≡ 8 → ⊥) → (kind t i ≡ 9 → ⊥) → (kind t i ≡ 10 → ⊥) → (kind t i ≡ 11 → ⊥) → true ≡ shapeFine t i
+  pub at-rest : (kind t i ≡ 2 → ⊥) → (kind t i ≡ 8 → ⊥) → (kind t i ≡ 9 → ⊥) → (kind t i ≡ 10 → ⊥) → (kind t i ≡ 11 → ⊥) → true ≡ shapeFine t limits i
   unfolding shapeFine degreesFine oneKind joinFine actionFine chainFine
   at-rest a d m f j =
       sym (simp (ne-eqb (kind t i) 2 a, ne-eqb (kind t i) 8 d, ne-eqb (kind t i) 9 m, ne-eqb (kind t i) 10 f, ne-eqb (kind t i) 11 j, free))
@@ -214,7 +214,7 @@ pub is-marked : (b : Bool) → (oneIf b ≡ 0 → ⊥) → b ≡ true
 is-marked true e = refl
 is-marked false e = absurd (e refl)
 
-pub at-chain-end : (t : List ℕ) (i : ℕ) → chain t (limits .longestPath - 1) i ≡ true → shapeFine t i ≡ false
+pub at-chain-end : (t : List ℕ) (i : ℕ) → chain t (limits .chainTooLong) i ≡ true → shapeFine t limits i ≡ false
 unfolding shapeFine chainFine
 at-chain-end t i e = simp (e, and-false)
 
@@ -226,9 +226,8 @@ pub leads : (t : List ℕ) (k j : ℕ) → chain t k (source t j) ≡ true → l
 leads t k j e = rw e (and-true (isControlNode (kind t (target t j))))
 
 -- a round without a mark settles every longer chain
-pub settled : (t marks : List ℕ) (k n : ℕ) → EdgesFine t → Chained t k marks → k ≤ n → ((i : ℕ) → i < nodes t → at marks i ≡ 0) → Chained t n marks
-settled t marks k n fine h l z i u =
-    let none : (i : ℕ) → i < nodes t → chain t k i ≡ false = λ i u. unmarked (chain t k i) (sym (h i u) ∙ z i u) in
-    let e : n - k + k ≡ n = omega arith in
-    let f : chain t n i ≡ false = rw e at (chain-over t (λ j v. edge-facts t j (fine j v) .source-fits) k none (n - k) i u) in
+pub settled : (t marks : List ℕ) (k n : ℕ) → Chained t k marks → k ≤ n → ((i : ℕ) → i < nodes t → at marks i ≡ 0) → Chained t n marks
+settled t marks k n h l z i u =
+    let e : k + (n - k) ≡ n = omega arith in
+    let f : chain t n i ≡ false = rw e at (no-longer t k (n - k) i (unmarked (chain t k i) (sym (h i u) ∙ z i u))) in
     z i u ∙ ap oneIf (sym f)

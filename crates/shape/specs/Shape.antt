@@ -33,7 +33,7 @@ isFed t a = any (λ p. leb 1 (lower t p)) (inputs t a)
 abbrev pub Fed : List ℕ → List ℕ → Type 0
 Fed t marks = (a : ℕ) → a < nodes t → at marks a ≡ oneIf (isFed t a)
 
--- a chain of k + 1 control nodes ends at each node marked
+-- a chain of k control nodes ends at each node marked
 abbrev pub Chained : List ℕ → ℕ → List ℕ → Type 0
 Chained t k marks = (i : ℕ) → i < nodes t → at marks i ≡ oneIf (chain t k i)
 

@@ -6,7 +6,7 @@ use table::is_control_node;
 ghost use mathlib.Core.Path.{_≡_};
 ghost use mathlib.Core.Bool.{true, false, not, _&&_};
 ghost use mathlib.Core.List.{List};
-ghost use Prim.Native.Nat.{ℕ, _+_, _*_, _-_, _≤_, _<_};
+ghost use Prim.Native.Nat.{ℕ, _+_, _*_, _≤_, _<_};
 ghost use lib.Dec.{leb};
 ghost use lib.ListN.{length, set};
 ghost use Rattle.paper.specs.Lists.{at, lowest, oneIf};
@@ -111,7 +111,7 @@ fn mark_fed(s: &[u8], table: Table, fed: &mut [u8])
 // Marks the control nodes: a chain of one ends there.
 fn mark_control(s: &[u8], table: Table, marks: &mut [u8])
     requires { ⌜ Spans (now s) table × (table .nodes ≤ length (now marks)) ⌝ }
-    ensures { λ _. ⌜ (Blank (now (marks .entry)) → Chained (now (s .entry)) 0 (now (marks .exit))) ⌝ }
+    ensures { λ _. ⌜ (Blank (now (marks .entry)) → Chained (now (s .entry)) 1 (now (marks .exit))) ⌝ }
 {
     let n = table.nodes;
     let mut i: usize = 0;
@@ -136,7 +136,7 @@ fn leads_on(s: &[u8], table: Table, marks: &[u8], j: usize) -> bool
 // From the ends of chains of one length to those of the next.
 fn next_round(s: &[u8], table: Table, marks: &[u8], next: &mut [u8])
     requires { ⌜ Spans (now s) table × EdgesFine (now s) × (table .nodes ≤ length (now marks)) × (table .nodes ≤ length (now next)) ⌝ }
-    ensures { λ _. ⌜ ((k : ℕ) → Chained (now (s .entry)) k (now (marks .entry)) → Blank (now (next .entry)) → Chained (now (s .entry)) (k + 1) (now (next .exit))) ⌝ }
+    ensures { λ _. ⌜ ((k : ℕ) → 1 ≤ k → Chained (now (s .entry)) k (now (marks .entry)) → Blank (now (next .entry)) → Chained (now (s .entry)) (k + 1) (now (next .exit))) ⌝ }
 {
     let e = table.edges;
     let mut j: usize = 0;
@@ -164,13 +164,13 @@ fn any_marked(marks: &[u8], n: usize) -> bool
 // Marks the nodes at which a chain of the forbidden length ends. A round without a mark settles it: no longer chain ends anywhere.
 fn chain_ends(s: &[u8], table: Table) -> [u8; Table::MOST_NODES]
     requires { ⌜ Spans (now s) table × EdgesFine (now s) ⌝ }
-    ensures { λ r. ⌜ Chained (now (s .entry)) (limits .longestPath - 1) r ⌝ }
+    ensures { λ r. ⌜ Chained (now (s .entry)) (limits .chainTooLong) r ⌝ }
 {
     let n = table.nodes;
     let mut marks = [0u8; Table::MOST_NODES];
     mark_control(s, table, &mut marks);
     let mut k: usize = 1;
-    while k < Table::LONGEST_PATH {
+    while k < Table::CHAIN_TOO_LONG {
         let mut next = [0u8; Table::MOST_NODES];
         next_round(s, table, &marks, &mut next);
         if !any_marked(&next, n) {
@@ -254,7 +254,7 @@ fn action_fine(d: Degrees, fed: u8) -> bool
 
 // Row 4 at a node, from its kind, its degrees and its two marks.
 fn shape_fine(k: usize, d: Degrees, fed: u8, ended: u8) -> bool
-    ensures { λ r. ⌜ ((t : List ℕ) (i : ℕ) → k ≡ kind t i → Counts t i d → fed ≡ oneIf (isFed t i) → ended ≡ oneIf (chain t (limits .longestPath - 1) i) → r ≡ shapeFine t i) ⌝ }
+    ensures { λ r. ⌜ ((t : List ℕ) (i : ℕ) → k ≡ kind t i → Counts t i d → fed ≡ oneIf (isFed t i) → ended ≡ oneIf (chain t (limits .chainTooLong) i) → r ≡ shapeFine t limits i) ⌝ }
 {
     if ended != 0 {
         return false;
@@ -272,7 +272,7 @@ fn shape_fine(k: usize, d: Degrees, fed: u8, ended: u8) -> bool
 // The lowest node that row 4 refuses. Edges are counted and chains followed once for all nodes, so that each node is judged from its own cells.
 pub fn bad_shape(s: &[u8], table: Table) -> Found
     requires { ⌜ Spans (now s) table × NodesFine (now s) × EdgesFine (now s) ⌝ }
-    ensures { λ r. ⌜ found r ≡ lowest (λ i. not (shapeFine (now (s .entry)) i)) (nodes (now (s .entry))) ⌝ }
+    ensures { λ r. ⌜ found r ≡ lowest (λ i. not (shapeFine (now (s .entry)) limits i)) (nodes (now (s .entry))) ⌝ }
 {
     let n = table.nodes;
     let mut cells = [0u8; Degrees::CELLS * Table::MOST_NODES];

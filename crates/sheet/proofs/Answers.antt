@@ -1,11 +1,11 @@
 -- What sheet and pick answer for a stream, read from their words and bytes, and the text that is made of it. Assumes nothing.
-use mathlib.Core.Path.{_≡_, refl, sym, ap, _∙_}
+use mathlib.Core.Path.{_≡_, refl, sym, ap, subst, _∙_}
 use Prim.Native.Nat.{ℕ, _≤_, _<_}
 use native.Mathlib.Omega.{arith}
 use mathlib.Core.Bool.{false}
 use mathlib.Core.List.{List, _++_}
 use lib.ListN.{length, take, drop, length-append}
-use lib.Seq.{take-append-seam, take-at}
+use lib.Seq.{take-append-seam, take-at, take-all}
 use borrow.Author.Tests.{le-leb}
 use Rattle.paper.specs.Lists.{has, below}
 use Rattle.paper.specs.Answers.{Answer, refused, good}
@@ -14,13 +14,15 @@ use Rattle.paper.specs.Operations.{sheet, sheetBytes, Pick, PickOn, packed, inR
 use Rattle.paper.specs.Program.{tablePart, markingPart, guardsPart, refusalText, boardText, text, Prints}
 use Rattle.paper.proofs.Bools.{never}
 use Rattle.paper.proofs.Bytes.{Bytes}
+use Rattle.paper.proofs.Inputs.{input-fits}
 use Rattle.paper.proofs.Lengths.{length-keep, length-from}
 use Rattle.paper.proofs.Picks.{pick-unique}
+use Rattle.paper.proofs.Sizes.{few-ends}
 use Rattle.numbers.specs.Written.{Printed}
 use Rattle.text.specs.Sheets.{Sheet}
-use Rattle.text.proofs.Boards.{few-ends}
 use Rattle.text.proofs.Meaning.{sheet-fits}
 use Rattle.sheet.specs.Shown.{Shown, PrintsParts}
+use Rattle.sheet.specs.Input.{mostInput, readOf, PrintsFor}
 use Rattle.sheet.proofs.Refusals.{board-plain}
 
 -- ---- the numbers that were read from a word
@@ -97,7 +99,7 @@ module _ {t m g bytes : List ℕ} (x : Shown t m g bytes) {old new : List ℕ} {
       by (refused k p) a r = let c : PickOn d 255 (refused k p) = rw (x .is-board) at a in never false (c .2 .is-named) refl
       by (good ks) a r =
           let c : PickOn d 255 (good ks) = rw (x .is-board) at a in
-          let few = few-ends t m g d (x .marking-bytes) (x .is-board) in
+          let few = few-ends t m g d (x .is-board) in
           let n : length ks ≤ 20 = rw (c .2) (omega (arith, length-keep (has (c .0)) (below (howMany d)), length-from 0 (howMany d))) in
           let h : Reply (good ks) word old new = rw (le-leb (length ks) (length old) (omega arith)) at r in
           let q = isL 0 0 (length ks) (omega arith) (h .0) in
@@ -130,3 +132,14 @@ prints-unique s a b p q =
     p .is-text
     ∙ ap (text (board (tablePart s) (markingPart s) (guardsPart s))) (pick-unique (tablePart s) (markingPart s) (guardsPart s) 255 (p .picked) (q .picked) (p .allowed) (q .allowed))
     ∙ sym (q .is-text)
+
+-- for an input of which the stream was read
+pub prints-for : {s written : List ℕ} (input : List ℕ) → s ≡ readOf input → Prints s written → PrintsFor input written
+prints-for {written = written} input e p = subst (λ (s : List ℕ). Prints s written) e p
+
+pub prints-for-unique : (input a b : List ℕ) → PrintsFor input a → PrintsFor input b → a ≡ b
+prints-for-unique input a b p q = prints-unique (readOf input) a b p q
+
+-- "no good input is longer": all of it is read
+pub read-whole : (input : List ℕ) (d : Board) → Bytes input → board (tablePart input) (markingPart input) (guardsPart input) ≡ good d → readOf input ≡ input
+read-whole input d u h = take-all mostInput input (input-fits input d u h)

@@ -6,7 +6,7 @@ use mathlib.Core.Bool.{Bool, true, false, not}
 use mathlib.Core.List.{List}
 use mathlib.Core.Option.{Option, none, some}
 use Rattle.paper.specs.Lists.{lowest}
-use Rattle.paper.specs.Answers.{Answer, refused, good, _>>=_, unless, need, known}
+use Rattle.paper.specs.Answers.{Answer, refused, good, _>>=_, refuseIf, need, known}
 use Rattle.paper.specs.Limits.{limits}
 use Rattle.paper.specs.Table.{nodes, edges, frameFine, nodeFine, edgeFine, shapeFine, tableFine}
 use Rattle.paper.specs.Marking.{marking}
@@ -41,10 +41,10 @@ plain-known : {A : Type 0} (k : ℕ) (o : Option A) → Plain (known (suc k) o)
 plain-known k none = plain-refused (suc k) 0 (omega arith) (omega arith)
 plain-known k (some a) = plain-good a
 
-plain-lowest : (k : ℕ) (f : ℕ → Bool) (m : ℕ) → m ≤ 64 → Plain (unless (suc k) (lowest f m))
+plain-lowest : (k : ℕ) (f : ℕ → Bool) (m : ℕ) → m ≤ 64 → Plain (refuseIf (suc k) (lowest f m))
 plain-lowest k f m l = by (lowest f m) refl
   where
-    by : (o : Option ℕ) → lowest f m ≡ o → Plain (unless (suc k) o)
+    by : (o : Option ℕ) → lowest f m ≡ o → Plain (refuseIf (suc k) o)
     by none e = plain-good tt
     by (some p) e = plain-refused (suc k) p (omega arith) (omega (arith, lowest-is f m p e .below-n))
 
@@ -54,9 +54,9 @@ module _ (t : List ℕ) where
   table-plain =
       plain-on (need 1 (frameFine t limits)) _ (plain-need 0 (frameFine t limits))
       (λ u e. let f = framed (frameFine t limits) refl u e in
-      plain-on (unless 2 (lowest (λ i. not (nodeFine t i)) (nodes t))) _ (plain-lowest 1 (λ i. not (nodeFine t i)) (nodes t) (omega (arith, f .nodes-fit)))
-      (λ v g. plain-on (unless 3 (lowest (λ j. not (edgeFine t j)) (edges t))) _ (plain-lowest 2 (λ j. not (edgeFine t j)) (edges t) (omega (arith, f .edges-fit)))
-      (λ w h. plain-lowest 3 (λ i. not (shapeFine t i)) (nodes t) (omega (arith, f .nodes-fit)))))
+      plain-on (refuseIf 2 (lowest (λ i. not (nodeFine t limits i)) (nodes t))) _ (plain-lowest 1 (λ i. not (nodeFine t limits i)) (nodes t) (omega (arith, f .nodes-fit)))
+      (λ v g. plain-on (refuseIf 3 (lowest (λ j. not (edgeFine t j)) (edges t))) _ (plain-lowest 2 (λ j. not (edgeFine t j)) (edges t) (omega (arith, f .edges-fit)))
+      (λ w h. plain-lowest 3 (λ i. not (shapeFine t limits i)) (nodes t) (omega (arith, f .nodes-fit)))))
     where
       framed : (b : Bool) → frameFine t limits ≡ b → (u : Unit {0}) → need 1 b ≡ good u → Frame t limits
       framed true q u e = frame-facts t limits q

@@ -1,13 +1,16 @@
 // The program `sheet`: reads a table, a marking and guards, one after another, and prints the ends on offer and the pick, or the refusal.
-// `describe` makes the text, and its promise is the paper's (`Prints`); what is read and printed around it no contract can say.
-ghost use Prim.Native.Nat.{_≤_};
+// `describe` makes the text, and its promise is the paper's (`PrintsFor`): of an input however long, if what it is lent is the first 8,192 bytes of it.
+// That those are read, and that the text is printed, no contract can say.
+ghost use mathlib.Core.Path.{_≡_};
+ghost use mathlib.Core.List.{List};
+ghost use Prim.Native.Nat.{ℕ, _≤_};
 ghost use lib.ListN.{length, take};
-ghost use Rattle.paper.specs.Program.{Prints};
 ghost use Rattle.sheet.specs.Shown.{Shown, PrintsPick, PrintsParts};
+ghost use Rattle.sheet.specs.Input.{mostInput, readOf, PrintsFor};
 use libc::STDIN_FILENO;
 use libc::STDOUT_FILENO;
 
-// No good input is longer.
+// So much is read at most (`mostInput`); no good input is longer.
 const MOST_INPUT: usize = 8192;
 
 // A sheet is shorter, and so is a pick.
@@ -53,10 +56,10 @@ fn describe_parts(table: &[u8], marking: &[u8], guards: &[u8], out: &mut [u8]) -
     describe_board(table, marking, guards, &sheet[..n], out)
 }
 
-// Makes the text for a stream, and answers how long it is.
+// Makes the text for an input of which this stream was read, and answers how long it is.
 fn describe(stream: &[u8], out: &mut [u8]) -> usize
-    requires { ⌜ 16464 ≤ length (now out) ⌝ }
-    ensures { λ r. ⌜ (r ≤ length (now (out .exit))) × Prints (now (stream .entry)) (take r (now (out .exit))) ⌝ }
+    requires { ⌜ (length (now stream) ≤ mostInput) × (16464 ≤ length (now out)) ⌝ }
+    ensures { λ r. ⌜ (r ≤ length (now (out .exit))) × ((input : List ℕ) → now (stream .entry) ≡ readOf input → PrintsFor input (take r (now (out .exit)))) ⌝ }
 {
     let table = text::stream::table_part(stream);
     let marking = text::stream::marking_part(stream);

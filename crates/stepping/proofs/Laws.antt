@@ -14,7 +14,7 @@ use Rattle.paper.specs.Choices.{Board, howMany, rules, next}
 use Rattle.paper.specs.Operations.{rising, choiceOf, stepOf, packed, inRoom, Reply}
 use Rattle.table.specs.declared.Table.{Table}
 use Rattle.table.specs.Reading.{tableRead}
-use Rattle.table.proofs.Reading.{read-spans, most-nodes}
+use Rattle.table.proofs.Reading.{read-fine, read-spans, most-nodes}
 use Rattle.rows.specs.declared.Offers.{Offers}
 use Rattle.seating.specs.Seating.{Rowed, Columns}
 use Rattle.judge.specs.declared.Judged.{Judged}
@@ -86,7 +86,7 @@ module _ {t b : List ℕ} {a : Table} (e : tableRead t ≡ good a) {o : Offers} 
     verdict : judgedBy (rules (s .on)) c ≡ said r
     verdict =
         judged-rows t (s .on) o (s .links) (s .trees) ends n c (s .seated) edge target home k (x .runs) (x .kept)
-        (record { running = s .holding .nodes-held .running; stocks = λ i l q. s .holding .nodes-held .stocks i l q .many })
+        (record { table-fine = read-fine t e; running = s .holding .nodes-held .running; stocks = λ i l q. s .holding .nodes-held .stocks i l q .many })
         ∙ sym h
 
     pub settled-refused : (i p w : ℕ) (out : List ℕ) → r ≡ Unfit i p → w ≡ packed i p 0 → Reply (inRoom (length out) (settled t (s .on) c)) w out out

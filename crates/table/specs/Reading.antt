@@ -44,7 +44,7 @@ pub record Spans (t : List ℕ) (x : Table) : Type 0 where
 
 -- rows 2 and 3 refuse nothing
 abbrev pub NodesFine : List ℕ → Type 0
-NodesFine t = (i : ℕ) → i < nodes t → nodeFine t i ≡ true
+NodesFine t = (i : ℕ) → i < nodes t → nodeFine t limits i ≡ true
 
 abbrev pub EdgesFine : List ℕ → Type 0
 EdgesFine t = (j : ℕ) → j < edges t → edgeFine t j ≡ true

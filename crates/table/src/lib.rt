@@ -1,5 +1,5 @@
 // A table's bytes by their fields: the counts of a table, and accessors that every reader goes by.
-// Assumes nothing. Functions that read fields require that the bytes span the counts (`Spans`).
+// Assumes no more than its `requires`: functions that read fields ask that the bytes span the counts (`Spans`).
 ghost use mathlib.Core.Path.{_≡_};
 ghost use mathlib.Core.Bool.{_||_};
 ghost use mathlib.Core.List.{List};
@@ -35,6 +35,8 @@ impl Table {
     pub const MOST_EDGES: usize = 64;
 
     pub const MOST_UPPER: usize = 16;
+
+    pub const CHAIN_TOO_LONG: usize = 16;
 
     pub const LONGEST_PATH: usize = 16;
 

@@ -18,6 +18,7 @@ use Rattle.paper.specs.Operations.{valueBytes, endBytes, sheetBytes}
 use Rattle.paper.specs.Program.{decimal, commas, line, valueText, endLine, boardText}
 use Rattle.paper.proofs.Bytes.{four-back}
 use Rattle.paper.proofs.Boards.{board-good}
+use Rattle.paper.proofs.Sizes.{sheet-most}
 use Rattle.paper.proofs.Cursor.{wordAt}
 use Rattle.paper.proofs.Lengths.{drop-head, gather-each}
 use Rattle.paper.proofs.Members.{In, here, later}
@@ -28,7 +29,7 @@ use Rattle.table.specs.Reading.{countsOf, Spans}
 use Rattle.text.specs.Shown.{pathOver, pathsOver, pathShown, pathsShown, valueShown, headShown, endOver, endShown, endsOver, endsShown, EndsFit, countShown, pickShown, textShown}
 use Rattle.text.specs.Sheets.{Sheet}
 use Rattle.numbers.proofs.Decimals.{parted-more}
-use Rattle.text.proofs.Boards.{Small, EndFacts, few-ends, end-facts, sheet-most}
+use Rattle.text.proofs.Boards.{Small, EndFacts, end-facts}
 
 -- ---- what is behind a place
 record Rest (s : List ℕ) (p : ℕ) (bytes : List ℕ) : Type 0 where
@@ -220,4 +221,4 @@ module _ {t s : List ℕ} (x : Sheet t s) where
       rw (count-here, ends-here 0 es facts from-four, lines-are (x .of) t (b .facts .is-table))
 
   pub sheet-fits : length s ≤ 4096
-  sheet-fits = omega (arith, ap length (x .is-sheet), sheet-most es (few-ends t (x .marking) (x .guards) (x .of) (x .marking-bytes) (x .is-board)) facts)
+  sheet-fits = omega (arith, ap length (x .is-sheet), sheet-most t (x .marking) (x .guards) (x .of) (x .is-board))

@@ -1,5 +1,5 @@
 // Big-endian numbers in lent bytes, and the three numbers of an answer packed in one word.
-// Assumes nothing.
+// Assumes no more than its `requires`.
 ghost use mathlib.Core.Path.{_≡_};
 ghost use mathlib.Core.List.{[], _∷_, _++_};
 ghost use Prim.Native.Nat.{ℕ, _+_, _*_, _-_, _%_, _^_, _≤_, _<_};

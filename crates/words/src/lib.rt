@@ -1,5 +1,5 @@
 // Words that stand for sets of offers or of ends: a digit of a word, and whether two offers clash, as their nodes and words say.
-// Assumes nothing.
+// Assumes no more than its `requires`.
 ghost use mathlib.Core.Path.{_≡_};
 ghost use mathlib.Core.Bool.{_||_};
 ghost use Prim.Native.Nat.{_<_, _^_};

@@ -14,16 +14,16 @@ use Rattle.checking.proofs.node_fine.Tie as tie
 
 -- what the tests of a node's fields say of the node
 module _ (t : List ℕ) (i : ℕ) {k : ℕ} (ek : k ≡ kind t i) where
-  owner-bad : {o : ℕ} → o ≡ owner t i → cond (isPin k) (ltb o (nodes t) && isAction (kind t o)) (eqb o 255) ≡ false → false ≡ nodeFine t i
+  owner-bad : {o : ℕ} → o ≡ owner t i → cond (isPin k) (ltb o (nodes t) && isAction (kind t o)) (eqb o 255) ≡ false → false ≡ nodeFine t limits i
   unfolding nodeFine
   owner-bad eo h = rw (← ek, ← eo) (simp (h, and-false))
 
-  upper-bad : {u : ℕ} → u ≡ upper t i → cond (isObjectNode k) (within 1 (limits .mostUpper) u) (eqb u 0) ≡ false → false ≡ nodeFine t i
+  upper-bad : {u : ℕ} → u ≡ upper t i → cond (isObjectNode k) (within 1 (limits .mostUpper) u) (eqb u 0) ≡ false → false ≡ nodeFine t limits i
   unfolding nodeFine
   upper-bad eu h = rw (← ek, ← eu) (simp (h, and-false))
 
   node-by : {o u l : ℕ} {r : Bool} → o ≡ owner t i → u ≡ upper t i → l ≡ lower t i → within 1 13 k ≡ true → cond (isPin k) (ltb o (nodes t) && isAction (kind t o)) (eqb o 255) ≡ true
-      → cond (isObjectNode k) (within 1 (limits .mostUpper) u) (eqb u 0) ≡ true → r ≡ cond (isInput k) (leb l u) (eqb l 0) → r ≡ nodeFine t i
+      → cond (isObjectNode k) (within 1 (limits .mostUpper) u) (eqb u 0) ≡ true → r ≡ cond (isInput k) (leb l u) (eqb l 0) → r ≡ nodeFine t limits i
   unfolding nodeFine
   node-by eo eu el hk ho hu h = rw (← ek, ← eo, ← eu, ← el) (rw (hk, ho, hu) h)
 

@@ -30,7 +30,7 @@ spans c =
       whole = f .all-of-it;
     }
 
-nodes-pass : (c : tie.After-enum-told) → lowest (λ k. not (nodeFine (c .before .before .before .before .before .before .before .args .s .now) k)) (nodes (c .before .before .before .before .before .before .before .args .s .now)) ≡ none
+nodes-pass : (c : tie.After-enum-told) → lowest (λ k. not (nodeFine (c .before .before .before .before .before .before .before .args .s .now) limits k)) (nodes (c .before .before .before .before .before .before .before .args .s .now)) ≡ none
 nodes-pass c = sym (c .before .before .bad-node .ensures) ∙ ap found (c .enum-told .given .1)
 
 edges-pass : (c : tie.After-enum-told2) → lowest (λ k. not (edgeFine (c .before .before .before .before .before .before .before .before .before .before .args .s .now) k)) (edges (c .before .before .before .before .before .before .before .before .before .before .args .s .now)) ≡ none
@@ -55,7 +55,7 @@ cast-t9 : tie.Need-cast-t9
 cast-t9 c =
     let t = c .before .before .before .before .before .before .before .before .args .s .now in
     let f = frame-facts t limits (frame (c .before .before .before .before .before)) in
-    let b = found-below (λ k. not (nodeFine t k)) (nodes t) _ (sym (c .before .before .before .bad-node .ensures) ∙ ap found (c .before .i .given .1)) in
+    let b = found-below (λ k. not (nodeFine t limits k)) (nodes t) _ (sym (c .before .before .before .bad-node .ensures) ∙ ap found (c .before .i .given .1)) in
     omega arith
 
 returns-2 : tie.Need-returns-2
@@ -93,7 +93,7 @@ cast-t13 : tie.Need-cast-t13
 cast-t13 c =
     let t = c .before .before .before .before .before .before .before .before .before .before .before .before .before .before .args .s .now in
     let f = frame-facts t limits (frame (c .before .before .before .before .before .before .before .before .before .before .before)) in
-    let b = found-below (λ k. not (shapeFine t k)) (nodes t) _ (sym (c .before .before .before .bad-shape .ensures) ∙ ap found (c .before .i2 .given .1)) in
+    let b = found-below (λ k. not (shapeFine t limits k)) (nodes t) _ (sym (c .before .before .before .bad-shape .ensures) ∙ ap found (c .before .i2 .given .1)) in
     omega arith
 
 returns-4 : tie.Need-returns-4

@@ -14,13 +14,13 @@ use Rattle.shape.proofs.bad_shape.Statement.{statement}
 use Rattle.shape.proofs.bad_shape.Tie as tie
 
 abbrev Inv-loop : tie.InvT-loop
-Inv-loop s table n cells fed ends i₀ i = (i ≤ n) × (n ≡ nodes s) × ((k : ℕ) → k < i → shapeFine s k ≡ true)
+Inv-loop s table n cells fed ends i₀ i = (i ≤ n) × (n ≡ nodes s) × ((k : ℕ) → k < i → shapeFine s limits k ≡ true)
 
 abbrev μ-loop : tie.MeasureT-loop
 μ-loop s table n cells fed ends i₀ i = n - i
 
 -- the test of node i is row 4 at node i: the arrays hold what they should
-shape-is : (c : tie.After-shape-fine Inv-loop μ-loop) → c .shape-fine .result ≡ shapeFine (c .before .before .before .before .before .before .before .before .before .before .before .before .before .before .args .s .now) (c .before .before .before .before .before .loop .i)
+shape-is : (c : tie.After-shape-fine Inv-loop μ-loop) → c .shape-fine .result ≡ shapeFine (c .before .before .before .before .before .before .before .before .before .before .before .before .before .before .args .s .now) limits (c .before .before .before .before .before .loop .i)
 shape-is c =
     let t = c .before .before .before .before .before .before .before .before .before .before .before .before .before .before .args .s .now in
     let i = c .before .before .before .before .before .loop .i in
@@ -44,7 +44,7 @@ chain-ends-requires : tie.Need-chain-ends-requires Inv-loop μ-loop
 chain-ends-requires c κs = search needs
 
 loop-holds : tie.Need-loop-holds Inv-loop μ-loop
-loop-holds c = (search needs, search needs, below-none (λ k. shapeFine (c .before .before .before .before .before .before .before .before .args .s .now) k ≡ true))
+loop-holds c = (search needs, search needs, below-none (λ k. shapeFine (c .before .before .before .before .before .before .before .before .args .s .now) limits k ≡ true))
 
 kind-requires : tie.Need-kind-requires Inv-loop μ-loop
 kind-requires c κs = search needs
@@ -68,7 +68,7 @@ returns : tie.Need-returns Inv-loop μ-loop
 returns c =
     let l = c .before .before .before .before .before .before .loop in
     let t = c .before .before .before .before .before .before .before .before .before .before .before .before .before .before .before .args .s .now in
-    sym (fails-at (shapeFine t) (nodes t) (l .i) (l .inv .2) (sym (shape-is (c .before)) ∙ not-true _ (c .if1 .taken)) (omega arith))
+    sym (fails-at (shapeFine t limits) (nodes t) (l .i) (l .inv .2) (sym (shape-is (c .before)) ∙ not-true _ (c .if1 .taken)) (omega arith))
 
 add-i : tie.Need-add-i Inv-loop μ-loop
 add-i c = search needs
@@ -83,7 +83,7 @@ returns-2 : tie.Need-returns-2 Inv-loop μ-loop
 returns-2 c =
     let l = c .before .loop in
     let t = c .before .before .before .before .before .before .before .before .before .before .args .s .now in
-    sym (fails-nowhere (shapeFine t) (nodes t) (λ k h. l .inv .2 k (omega arith)))
+    sym (fails-nowhere (shapeFine t limits) (nodes t) (λ k h. l .inv .2 k (omega arith)))
 
 pub bad-shape-spec : {M : Type 1} → statement M
 bad-shape-spec =

@@ -13,10 +13,10 @@ use Rattle.shape.proofs.chain_ends.Statement.{statement}
 use Rattle.shape.proofs.chain_ends.Tie as tie
 
 abbrev Inv-loop : tie.InvT-loop
-Inv-loop s table n marks₀ k₀ marks k = (1 ≤ k) × (k ≤ limits .longestPath) × (length marks ≡ limits .mostNodes) × Chained s (k - 1) marks
+Inv-loop s table n marks₀ k₀ marks k = (1 ≤ k) × (k ≤ limits .chainTooLong) × (length marks ≡ limits .mostNodes) × Chained s k marks
 
 abbrev μ-loop : tie.MeasureT-loop
-μ-loop s table n marks₀ k₀ marks k = limits .longestPath - k
+μ-loop s table n marks₀ k₀ marks k = limits .chainTooLong - k
 
 slice-aggregate-mark-control : tie.Need-slice-aggregate-mark-control Inv-loop μ-loop
 slice-aggregate-mark-control c = search needs
@@ -47,7 +47,7 @@ returns c =
     let l = c .before .before .before .before .before .before .before .before .loop in
     let p = c .before .before .before .before .before .before .before .before .before .before .before .before .before in
     let n = p .pre .0 .nodes-read in
-    settled (p .args .s .now) (c .before .before .before .before .next-round .last .1 .1 .1 .0) (l .k - 1 + 1) (limits .longestPath - 1) (p .pre .1) (c .before .before .before .before .next-round .ensures (l .k - 1) (l .inv .3) (blank (limits .mostNodes))) (omega arith)
+    settled (p .args .s .now) (c .before .before .before .before .next-round .last .1 .1 .1 .0) (l .k + 1) (limits .chainTooLong) (c .before .before .before .before .next-round .ensures (l .k) (l .inv .0) (l .inv .3) (blank (limits .mostNodes))) (omega arith)
     (λ i u. c .before .any-marked .ensures (not-true _ (c .if1 .taken)) i (omega arith))
 
 add-k : tie.Need-add-k Inv-loop μ-loop
@@ -59,13 +59,12 @@ loop-less c = search needs
 loop-again : tie.Need-loop-again Inv-loop μ-loop
 loop-again c =
     let l = c .before .before .before .before .before .before .before .before .loop in
-    let e : l .k - 1 + 1 ≡ l .k + 1 - 1 = omega arith in
-    (search needs, search needs, search needs, rw e at (c .before .before .before .before .next-round .ensures (l .k - 1) (l .inv .3) (blank (limits .mostNodes))))
+    (search needs, search needs, search needs, c .before .before .before .before .next-round .ensures (l .k) (l .inv .0) (l .inv .3) (blank (limits .mostNodes)))
 
 returns-2 : tie.Need-returns-2 Inv-loop μ-loop
 returns-2 c =
     let l = c .before .loop in
-    let e : l .k - 1 ≡ limits .longestPath - 1 = omega arith in
+    let e : l .k ≡ limits .chainTooLong = omega arith in
     rw e at (l .inv .3)
 
 pub chain-ends-spec : {M : Type 1} → statement M

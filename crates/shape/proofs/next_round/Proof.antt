@@ -15,13 +15,13 @@ use Rattle.shape.proofs.next_round.Statement.{statement}
 use Rattle.shape.proofs.next_round.Tie as tie
 
 abbrev Inv-loop : tie.InvT-loop
-Inv-loop s table marks next₀ e j₀ next j = (j ≤ e) × (e ≡ edges s) × (length next ≡ length next₀) × ((k : ℕ) → Chained s k marks → Blank next₀ → Marks (leadsOn s k) (target s) j next)
+Inv-loop s table marks next₀ e j₀ next j = (j ≤ e) × (e ≡ edges s) × (length next ≡ length next₀) × ((k : ℕ) → 1 ≤ k → Chained s k marks → Blank next₀ → Marks (leadsOn s k) (target s) j next)
 
 abbrev μ-loop : tie.MeasureT-loop
 μ-loop s table marks next₀ e j₀ next j = e - j
 
 loop-holds : tie.Need-loop-holds Inv-loop μ-loop
-loop-holds c = (search needs, search needs, refl, λ k h z a. z a)
+loop-holds c = (search needs, search needs, refl, λ k o h z a. z a)
 
 leads-on-requires : tie.Need-leads-on-requires Inv-loop μ-loop
 leads-on-requires c κs = search needs
@@ -50,18 +50,18 @@ loop-again c =
       search needs,
       search needs,
       search needs,
-      λ k h z. marks-more (leadsOn t k) (target t) (l .next) _ (l .j) _ _ (c .before .before .mark .ensures) (c .before .before .before .before .leads-on .ensures k h)
-          (c .before .before .before .target .ensures .0) (λ y. let f = edge-facts t (l .j) (p .pre .1 (l .j) (omega arith)) in omega arith) (l .inv .3 k h z),
+      λ k o h z. marks-more (leadsOn t k) (target t) (l .next) _ (l .j) _ _ (c .before .before .mark .ensures) (c .before .before .before .before .leads-on .ensures k h)
+          (c .before .before .before .target .ensures .0) (λ y. let f = edge-facts t (l .j) (p .pre .1 (l .j) (omega arith)) in omega arith) (l .inv .3 k o h z),
     )
 
 same-length : tie.Need-same-length Inv-loop μ-loop
 same-length c = search needs
 
 returns : tie.Need-returns Inv-loop μ-loop
-returns c = λ k h z a l.
+returns c = λ k m h z a l.
     let t = c .before .before .before .before .before .args .s .now in
     let o = c .before .loop in
-    rw add-one (marks-done (leadsOn t k) (target t) (o .next) (o .j) (edges t) a _ (o .inv .3 k h z) (omega arith) (sym (chain-on t k a)))
+    rw add-one (marks-done (leadsOn t k) (target t) (o .next) (o .j) (edges t) a _ (o .inv .3 k m h z) (omega arith) (sym (chain-on t k a m)))
 
 pub next-round-spec : {M : Type 1} → statement M
 next-round-spec =

@@ -1,5 +1,5 @@
 -- `describe` hands the stream's parts on. Assumes nothing.
-use Rattle.sheet.proofs.Answers.{prints}
+use Rattle.sheet.proofs.Answers.{prints, prints-for}
 use borrow.Author.Needs.{needs}
 use Rattle.sheet.proofs.describe.Statement.{statement}
 use Rattle.sheet.proofs.describe.Tie as tie
@@ -21,7 +21,7 @@ same-length c = search needs
 
 returns : tie.Need-returns
 returns c = let d = c .before .before .describe-parts in
-    (d .ensures .0, prints (c .before .before .before .before .before .before .before .before .before .args .stream .now) _ (c .before .before .before .before .before .before .table-part .ensures) (c .before .before .before .before .before .marking-part .ensures) (c .before .before .before .before .guards-part .ensures) (d .ensures .1))
+    (d .ensures .0, λ input e. prints-for input e (prints (c .before .before .before .before .before .before .before .before .before .args .stream .now) _ (c .before .before .before .before .before .before .table-part .ensures) (c .before .before .before .before .before .marking-part .ensures) (c .before .before .before .before .guards-part .ensures) (d .ensures .1)))
 
 pub describe-spec : {M : Type 1} → statement M
 describe-spec =
