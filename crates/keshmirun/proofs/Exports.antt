@@ -4,13 +4,15 @@
 use mathlib.Core.Path.{_≡_, subst}
 use mathlib.Core.List.{List, []}
 use Prim.Native.Nat.{ℕ}
+use lib.ListN.{length}
 use contract.Lifetimes.{Lfts}
 use denote.Triple.Clauses.{AtExit}
-use borrow.Fn.Kinds.{PK, RK, Dens, resT, endedOf, Out}
+use borrow.Fn.Kinds.{PK, RK, Dens, GoodsP, resT, endedOf, Out}
 use Rattle.paper.specs.Operations.{Leaves}
 use Rattle.paper.proofs.Members.{In}
 use Rattle.paper.proofs.Calls.{Call, checks, starts, sheets, picks, steps, finishes, AllowedBy}
 use Rattle.paper.proofs.SameAnswer.{Left}
+use Rattle.paper.proofs.OneWord.{SaysAnswer, says-answer}
 use Rattle.paper.proofs.SmallEvent.{Case, cases, small-event}
 use Rattle.keshmirun.proofs.check.Kinds as CheckKinds
 use Rattle.keshmirun.proofs.check.Reads as Check
@@ -52,6 +54,34 @@ step-promises κs a word z h = h
 pub finish-promises : Promises 4 FinishKinds.ps FinishKinds.r Finish.Learnt
     (λ κs a word z. Leaves (AllowedBy (finishes (a .0 .now) (a .1 .0 .now) (a .1 .1 .0) (a .1 .1 .1 .0 .now))) word (a .1 .1 .1 .1 .0 .now) (z .1 .1 .1 .1 .0 .now))
 finish-promises κs a word z h = h
+
+-- ---- the word that each returns settles number, place and length of its answer, without a premise on what is lent
+pub check-says : Promises 1 CheckKinds.ps CheckKinds.r Check.Learnt (λ κs a word z. SaysAnswer (checks (a .0 .now)) 0 word)
+check-says κs a word z h = says-answer (checks (a .0 .now)) tt word [] [] (check-promises κs a word z h)
+
+pub start-says : Promises 3 StartKinds.ps StartKinds.r Start.Learnt (λ κs a word z. SaysAnswer (starts (a .0 .now) (a .1 .0 .now)) (length (a .1 .1 .0 .now)) word)
+start-says κs a word z h = says-answer (starts (a .0 .now) (a .1 .0 .now)) tt word (a .1 .1 .0 .now) (z .1 .1 .0 .now) (start-promises κs a word z h)
+
+pub sheet-says : Promises 4 SheetKinds.ps SheetKinds.r Sheet.Learnt
+    (λ κs a word z. SaysAnswer (sheets (a .0 .now) (a .1 .0 .now) (a .1 .1 .0 .now)) (length (a .1 .1 .1 .0 .now)) word)
+sheet-says κs a word z h =
+    says-answer (sheets (a .0 .now) (a .1 .0 .now) (a .1 .1 .0 .now)) tt word (a .1 .1 .1 .0 .now) (z .1 .1 .1 .0 .now) (sheet-promises κs a word z h)
+
+-- the node is a byte: owning the arguments says so (`GoodsP`)
+pub pick-says : (κs : Lfts 4) (a : Dens κs PickKinds.ps) → GoodsP κs PickKinds.ps a → (word : resT PickKinds.r κs .Denot) (z : AtExit (endedOf 4 PickKinds.ps PickKinds.r) κs)
+    → Pick.Learnt κs a word z → SaysAnswer (picks (a .0 .now) (a .1 .0 .now) (a .1 .1 .0 .now) (a .1 .1 .1 .0)) (length (a .1 .1 .1 .1 .0 .now)) word
+pick-says κs a g word z h =
+    says-answer (picks (a .0 .now) (a .1 .0 .now) (a .1 .1 .0 .now) (a .1 .1 .1 .0)) (g .1 .1 .1 .0 .1) word (a .1 .1 .1 .1 .0 .now) (z .1 .1 .1 .1 .0 .now) (pick-promises κs a word z h)
+
+pub step-says : Promises 5 StepKinds.ps StepKinds.r Step.Learnt
+    (λ κs a word z. SaysAnswer (steps (a .0 .now) (a .1 .0 .now) (a .1 .1 .0 .now) (a .1 .1 .1 .0 .now)) (length (a .1 .1 .1 .1 .0 .now)) word)
+step-says κs a word z h =
+    says-answer (steps (a .0 .now) (a .1 .0 .now) (a .1 .1 .0 .now) (a .1 .1 .1 .0 .now)) tt word (a .1 .1 .1 .1 .0 .now) (z .1 .1 .1 .1 .0 .now) (step-promises κs a word z h)
+
+pub finish-says : Promises 4 FinishKinds.ps FinishKinds.r Finish.Learnt
+    (λ κs a word z. SaysAnswer (finishes (a .0 .now) (a .1 .0 .now) (a .1 .1 .0) (a .1 .1 .1 .0 .now)) (length (a .1 .1 .1 .1 .0 .now)) word)
+finish-says κs a word z h =
+    says-answer (finishes (a .0 .now) (a .1 .0 .now) (a .1 .1 .0) (a .1 .1 .1 .0 .now)) tt word (a .1 .1 .1 .1 .0 .now) (z .1 .1 .1 .1 .0 .now) (finish-promises κs a word z h)
 
 -- ---- the small event: on the call of a row of the table, an export leaves the row's answer
 case-left : (r : Case) → In r cases → (call : Call) → call ≡ r .call → (word : ℕ) (before after : List ℕ) → Leaves (AllowedBy call) word before after → Left (r .answer) word before after

@@ -14,7 +14,7 @@ use Rattle.paper.specs.Answers.{refused, good}
 use Rattle.paper.specs.Bytes.{goOn, _>>=_, done, fail, whole, framed, byte, valuesRead, upTo, four, listed}
 use Rattle.paper.specs.Table.{nodes, edges, isPin, isOutgoing, kind, owner, lower, upper, isInput, edgeKind, source, isInitial, isObjectNode, isAction}
 use Rattle.paper.specs.Marking.{Marking, blank, Field, stockOf, runsOf, tokensOf, written, counted, nodeFields, fieldRead, fieldsRead, layout, pinFine, cleared, markingFine, markingRead, marking}
-use Rattle.paper.proofs.Members.{In, Distinct, in-none, in-one}
+use Rattle.paper.proofs.Members.{In, Distinct, here as in-front, in-none, in-one}
 use Rattle.paper.proofs.Lengths.{gather-append, drop-head}
 use Rattle.paper.proofs.Counts.{all-append, all-gather}
 use Rattle.paper.proofs.Fields.{fields-append, node-once, node-only, not-both}
@@ -101,6 +101,7 @@ module _ (t b : List ℕ) where
   unfolding written
   node-here i p q a m k = record {
     stock = λ o. (drop q b, rw o at (k .stand .parts) ∙ ap (λ (l : List ℕ). l ++ drop q b) (append-nil (listed (m .stock i))));
+    room = λ o. k .fit (stockOf i) (rw o (in-front refl)) .0;
     runs = λ r. drop-head b (drop q b) p (oneIf (m .runs i)) (rw (not-both (kind t i) r, r) at (k .stand .parts));
   }
 
@@ -108,7 +109,7 @@ module _ (t b : List ℕ) where
   node-still i k p a m c d n w h =
       let s : a .stock k ≡ m .stock k = w .kept (stockOf k) (node-only t i (stockOf k) n) in
       let r : a .runs k ≡ m .runs k = w .kept (runsOf k) (node-only t i (runsOf k) n) in
-      record { stock = λ o. rw s at (h .stock o); runs = λ o. rw r at (h .runs o) }
+      record { stock = λ o. rw s at (h .stock o); room = λ o. rw s at (h .room o); runs = λ o. rw r at (h .runs o) }
 
   pub node-run : Run t b (nodeFields t) (λ m k p. NodeNoted t m b k p)
   node-run = record { once = node-once t; here = node-here; still = node-still }
@@ -202,9 +203,11 @@ module _ (t : List ℕ) (m : Marking) where
   no-pin p h = rw h
 
   module _ (p : ℕ) (i : isInput (kind t p) ≡ true) where
-    pub pin-runs : (x : ℕ) → x ≡ oneIf (m .runs (owner t p)) → x ≡ 1 → pinFine t m p ≡ leb (lower t p) (length (m .stock p))
+    -- no stock exceeds upper, so lower is all to ask for
+    pub pin-runs : (x : ℕ) → x ≡ oneIf (m .runs (owner t p)) → x ≡ 1 → length (m .stock p) ≤ upper t p → pinFine t m p ≡ leb (lower t p) (length (m .stock p))
     unfolding pinFine
-    pin-runs x e h = rw (i, one-of (m .runs (owner t p)) x e h)
+    pin-runs x e h u =
+        rw (i, one-of (m .runs (owner t p)) x e h, le-leb (length (m .stock p)) (upper t p) u) (and-true-right (leb (lower t p) (length (m .stock p))))
 
     pub pin-idle : (x : ℕ) → x ≡ oneIf (m .runs (owner t p)) → (x ≡ 1 → ⊥) → pinFine t m p ≡ eqb (length (m .stock p)) 0
     unfolding pinFine
@@ -374,6 +377,7 @@ module _ (t : List ℕ) where
       record {
         node = λ i l. let z = k .node i l in record {
           stock = λ o. rw (ap (λ (f : ℕ → List ℕ). f i) (e .0)) at (z .stock o);
+          room = λ o. rw (ap (λ (f : ℕ → List ℕ). f i) (e .0)) at (z .room o);
           runs = λ o. rw (ap (λ (f : ℕ → Bool). f i) (e .1)) at (z .runs o);
         };
       }

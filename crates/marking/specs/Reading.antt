@@ -9,7 +9,7 @@ use lib.ListN.{length, drop}
 use Rattle.paper.specs.Lists.{at, all, oneIf}
 use Rattle.paper.specs.Bytes.{framed, listed}
 use Rattle.paper.specs.Answers.{Answer, refused, good}
-use Rattle.paper.specs.Table.{nodes, edges, kind, isObjectNode, isAction}
+use Rattle.paper.specs.Table.{nodes, edges, kind, upper, isObjectNode, isAction}
 use Rattle.paper.specs.Marking.{Marking, Field, tokensOf, counted, nodeFields, cleared, markingFine, marking}
 use Rattle.marking.specs.declared.reading.MarkingAnswer.{MarkingAnswer}
 use Rattle.marking.specs.declared.reading.MarkingAnswer.the-variants.{Live, Ended, Refused}
@@ -31,9 +31,10 @@ Reads Bad o b = o ≡ none
 abbrev pub edgeFields : List ℕ → ℕ → List Field
 edgeFields t j = cond (counted t j) (tokensOf j ∷ []) []
 
--- p is where node k's field stands in the bytes b of marking m
+-- p is where node k's field stands in the bytes b of marking m, in which no stock exceeds upper
 pub record NodeNoted (t : List ℕ) (m : Marking) (b : List ℕ) (k p : ℕ) : Type 0 where
   pub stock : isObjectNode (kind t k) ≡ true → (rest : List ℕ) × (drop p b ≡ listed (m .stock k) ++ rest)
+  pub room : isObjectNode (kind t k) ≡ true → length (m .stock k) ≤ upper t k
   pub runs : isAction (kind t k) ≡ true → (p < length b) × (at b p ≡ oneIf (m .runs k))
 
 -- and q where edge j's count stands

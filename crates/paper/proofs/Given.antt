@@ -8,7 +8,7 @@ use mathlib.Core.Option.{some}
 use lib.Dec.{leb, ltb, eqb}
 use lib.ListN.{length}
 use borrow.Author.Tests.{leb-true, ltb-true, lt-ltb, eqb-true, ne-eqb}
-use Rattle.paper.specs.Lists.{below, all, keep, _⇒_}
+use Rattle.paper.specs.Lists.{below, all, keep, within, _⇒_}
 use Rattle.paper.specs.Answers.{good}
 use Rattle.paper.specs.Limits.{limits}
 use Rattle.paper.specs.Bytes.{valuesRead, eachRead, _>>=_ as _then_, done}
@@ -77,8 +77,8 @@ module _ (t : List ℕ) (gains : ℕ → Bool) (ps : List ℕ) (vss : List (List
   pin-same p l = by (isInput (kind t p)) refl (b .pins p l)
     where
       by : (c : Bool) → isInput (kind t p) ≡ c
-          → (c ⇒ cond (m .runs (owner t p)) (leb (lower t p) (length (m .stock p))) (eqb (length (m .stock p)) 0)) ≡ true
-          → (c ⇒ cond (m .runs (owner t p)) (leb (lower t p) (length (m .stock p ++ listFor p ps vss))) (eqb (length (m .stock p ++ listFor p ps vss)) 0)) ≡ true
+          → (c ⇒ cond (m .runs (owner t p)) (within (lower t p) (upper t p) (length (m .stock p))) (eqb (length (m .stock p)) 0)) ≡ true
+          → (c ⇒ cond (m .runs (owner t p)) (within (lower t p) (upper t p) (length (m .stock p ++ listFor p ps vss))) (eqb (length (m .stock p ++ listFor p ps vss)) 0)) ≡ true
       by true e h = rw (not-listed p ps vss (λ k. never (isInput (kind t p)) e (g .no-inputs p k)), append-nil) h
       by false e h = refl
 
@@ -147,8 +147,8 @@ module _ (t : List ℕ) where
         by (isInput (kind t p)) (eqb (owner t p) a) (all-below _ (nodes t) (and-true (all (pinFine t m) (below (nodes t))) _ (ok .fine) .0) p l)
       where
         by : (c d : Bool)
-            → (c ⇒ cond (m .runs (owner t p)) (leb (lower t p) (length (m .stock p))) (eqb (length (m .stock p)) 0)) ≡ true
-            → (c ⇒ cond (not d && m .runs (owner t p)) (leb (lower t p) (length (cond (c && d) [] (m .stock p)))) (eqb (length (cond (c && d) [] (m .stock p))) 0)) ≡ true
+            → (c ⇒ cond (m .runs (owner t p)) (within (lower t p) (upper t p) (length (m .stock p))) (eqb (length (m .stock p)) 0)) ≡ true
+            → (c ⇒ cond (not d && m .runs (owner t p)) (within (lower t p) (upper t p) (length (cond (c && d) [] (m .stock p)))) (eqb (length (cond (c && d) [] (m .stock p))) 0)) ≡ true
         by true true h = refl
         by true false h = h
         by false d h = refl

@@ -367,6 +367,13 @@ returned-says c n w before after l =
     rw (reply-word (inRoom (length before) (l .answer)) w before after (l .reply))
     (word-says (inRoom (length before) (l .answer)) (room-sayable (length before) (l .answer) (answers-sayable c n (l .answer) (l .allowed))))
 
+-- so the word that a call returns settles number, place and length of one answer that the definition allows, cut to the room
+abbrev pub SaysAnswer : Call → ℕ → ℕ → Type 0
+SaysAnswer c room w = (a : Answer (List ℕ)) × AllowedBy c a × Says w (inRoom room a)
+
+pub says-answer : (c : Call) → ByteNode c → (w : ℕ) (before after : List ℕ) → Leaves (AllowedBy c) w before after → SaysAnswer c (length before) w
+says-answer c n w before after l = (l .answer, l .allowed, returned-says c n w before after l)
+
 -- ---- five refreshes, in what an app sees: the word, and as many bytes at the front as its length says
 abbrev pub shown : ℕ → List ℕ → List ℕ
 shown word after = take (word % 2 ^ 32) after

@@ -9,8 +9,8 @@ use lib.Dec.{leb}
 use lib.ListN.{length, take, drop}
 use lib.Seq.{take-append-seam}
 use Rattle.paper.specs.Answers.{Answer, refused, good}
-use Rattle.paper.specs.Operations.{packed, inRoom, Reply, Leaves}
-use Rattle.paper.proofs.Calls.{OneAllowed, Call, AllowedBy, one-allowed}
+use Rattle.paper.specs.Operations.{check, start, sheet, Pick, step, finish, packed, inRoom, Reply, Leaves, Only}
+use Rattle.paper.proofs.Calls.{OneAllowed, Call, checks, starts, sheets, picks, steps, finishes, AllowedBy, one-allowed}
 
 -- ---- an answer's three numbers, its word and its reply (a refusal writes nothing)
 abbrev pub numberOf : Answer (List ℕ) → ℕ
@@ -42,6 +42,10 @@ left-good b before after w false e h = record { held = λ l. absurd (omega (arit
 pub reply-left : (a : Answer (List ℕ)) (w : ℕ) (before after : List ℕ) → Reply (inRoom (length before) a) w before after → Left a w before after
 reply-left (refused n p) w before after h = record { held = λ l. h; not-held = λ l. absurd (omega arith) }
 reply-left (good b) w before after h = left-good b before after w (leb (length b) (length before)) refl h
+
+-- a refusal writes nothing, so no room is too short for it
+pub refused-left : {n p w : ℕ} {before after : List ℕ} → Left (refused n p) w before after → (w ≡ packed n p 0) × (after ≡ before)
+refused-left l = l .held (omega arith)
 
 -- whatever answer is known to be allowed, it is what a call leaves
 pub leaves-left : {Allowed : Answer (List ℕ) → Type 0} → OneAllowed Allowed → (a : Answer (List ℕ)) → Allowed a
@@ -83,6 +87,25 @@ refreshes-show-one-bracket {Allowed} one w v before after before′ after′ x y
       second = s;
     }
 
--- so of any call: check, start, sheet, pick, step or finish
+-- so of any call
 pub same-bytes-same-answer : (c : Call) → SameAnswer (AllowedBy c)
 same-bytes-same-answer c = refreshes-show-one-bracket (one-allowed c)
+
+-- and of each operation, in the words of its export's promise
+pub check-same-answer : (t : List ℕ) → SameAnswer (Only (check t))
+check-same-answer t = same-bytes-same-answer (checks t)
+
+pub start-same-answer : (t b : List ℕ) → SameAnswer (Only (start t b))
+start-same-answer t b = same-bytes-same-answer (starts t b)
+
+pub sheet-same-answer : (t b g : List ℕ) → SameAnswer (Only (sheet t b g))
+sheet-same-answer t b g = same-bytes-same-answer (sheets t b g)
+
+pub pick-same-answer : (t b g : List ℕ) (n : ℕ) → SameAnswer (Pick t b g n)
+pick-same-answer t b g n = same-bytes-same-answer (picks t b g n)
+
+pub step-same-answer : (t b g ks : List ℕ) → SameAnswer (Only (step t b g ks))
+step-same-answer t b g ks = same-bytes-same-answer (steps t b g ks)
+
+pub finish-same-answer : (t b : List ℕ) (a : ℕ) (vs : List ℕ) → SameAnswer (Only (finish t b a vs))
+finish-same-answer t b a vs = same-bytes-same-answer (finishes t b a vs)

@@ -5,6 +5,7 @@ use mathlib.Core.Path.{_≡_, refl, sym, subst}
 use mathlib.Core.Logic.{⊎-elim}
 use mathlib.Core.List.{List, [], _∷_, _++_}
 use lib.ListN.{set}
+use Rattle.paper.specs.Lists.{each}
 use Rattle.paper.specs.Answers.{Answer, refused, good}
 use Rattle.paper.specs.Table.{nodeAt}
 use Rattle.paper.specs.Operations.{start, Leaves}
@@ -12,7 +13,7 @@ use Rattle.paper.specs.Program.{Prints}
 use Rattle.paper.proofs.Members.{In, in-none, in-cons}
 use Rattle.paper.proofs.EmptyChoice.{picks as picked}
 use Rattle.paper.proofs.Calls.{Call, sheets, picks, steps, finishes, AllowedBy, one-allowed}
-use Rattle.paper.proofs.SameAnswer.{Left, leaves-left}
+use Rattle.paper.proofs.SameAnswer.{wordOf, Left, leaves-left}
 use Rattle.paper.proofs.Computed.{computed}
 
 -- the table; node 2 is a decision, node 3 a join, node 4 the pin of action 5, node 6 a buffer
@@ -147,6 +148,13 @@ in-computed (q ∷ qs) h r m =
 -- C1 to C12: every row of the table holds
 pub small-event : (r : Case) → In r cases → Holds r
 small-event r m = holds r (in-computed cases computed-rows r m)
+
+-- the words that they are, two bytes of number, two of place and four of length: 10 place 0, 13 place 2, 12 place 6, 11 place 2 are C2, C6, C11, C12
+pub words : each (λ (r : Case). wordOf (r .answer)) cases ≡
+    0x000000000000001C ∷ 0x000A000000000000 ∷ 0x0000000000000001 ∷ 0x0000000000000001 ∷ 0x0000000000000001 ∷ 0x000D000200000000 ∷
+    0x0000000000000011 ∷ 0x000000000000000D ∷ 0x0000000000000012 ∷ 0x0000000000000011 ∷ 0x000C000600000000 ∷
+    0x000B000200000000 ∷ 0x0000000000000002 ∷ []
+words = refl
 
 -- ---- besides
 -- start, given what node 1 holds, writes the marking

@@ -248,7 +248,7 @@ module _ (t g : List ℕ) (m : Marking) (fine : tableFine t limits ≡ good tt) 
 
   busy-enough : (p : ℕ) → p < nodes t → kind t p ≡ 3 → m .runs (owner t p) ≡ true → lower t p ≤ length (m .stock p)
   unfolding pinFine
-  busy-enough p l k r = leb-true _ _ (rw (k, r) at (pin-was p l))
+  busy-enough p l k r = leb-true _ _ (and-true (leb (lower t p) (length (m .stock p))) _ (rw (k, r) at (pin-was p l)) .0)
 
   -- ---- rule 3
   module _ (h : judgedBy (rules on) c ≡ good tt) where
@@ -351,12 +351,19 @@ module _ (t g : List ℕ) (m : Marking) (fine : tableFine t limits ≡ good tt) 
             let o : isObjectNode (kind t p) ≡ true = rw k in
             omega (arith, length-append (left p) (came p), ap length (pin-left p k), singles-all (arrivals on c p) (with-value p o))
 
+        -- no stock exceeds upper
+        holds : kind t p ≡ 3 → lower t p ≤ length (left p ++ came p) → within (lower t p) (upper t p) (length (left p ++ came p)) ≡ true
+        holds k h =
+            let o : isObjectNode (kind t p) ≡ true = rw k in
+            let u : length (left p ++ came p) ≤ upper t p = omega (arith, length-append (left p) (came p), stock-fits p l o) in
+            and-both (leb (lower t p) (length (left p ++ came p))) _ (le-leb (lower t p) _ h) (le-leb _ (upper t p) u)
+
         pin : kind t p ≡ 3 → (r : Bool) → m .runs (owner t p) ≡ r → (s : Bool) → any (belongs t (owner t p)) (takenEnds on c) ≡ s
-            → cond (r || s) (leb (lower t p) (length (left p ++ came p))) (eqb (length (left p ++ came p)) 0) ≡ true
-        pin k true e s f = le-leb (lower t p) (length (left p ++ came p)) (omega (arith, amount k, busy-enough p l k e))
+            → cond (r || s) (within (lower t p) (upper t p) (length (left p ++ came p))) (eqb (length (left p ++ came p)) 0) ≡ true
+        pin k true e s f = holds k (omega (arith, amount k, busy-enough p l k e))
         pin k false e true f =
             let a = action-of p l k in
-            le-leb (lower t p) (length (left p ++ came p)) (omega (arith, amount k, action-fits (owner t p) (a .0) (a .1) f .1 p (pin-in p l k) .0))
+            holds k (omega (arith, amount k, action-fits (owner t p) (a .0) (a .1) f .1 p (pin-in p l k) .0))
         pin k false e false f =
             let none = nothing-in (arrivals on c p) (λ o i. never (any (belongs t (owner t p)) (takenEnds on c)) (pin-served p k i) f) in
             let z : length (arrivals on c p) ≡ 0 = ap length none in
@@ -364,7 +371,7 @@ module _ (t g : List ℕ) (m : Marking) (fine : tableFine t limits ≡ good tt) 
 
         by : (b : Bool) → isInput (kind t p) ≡ b
             → (b ⇒ cond (m .runs (owner t p) || (isAction (kind t (owner t p)) && any (belongs t (owner t p)) (takenEnds on c)))
-            (leb (lower t p) (length (left p ++ cond (isObjectNode (kind t p)) (came p) []))) (eqb (length (left p ++ cond (isObjectNode (kind t p)) (came p) [])) 0)) ≡ true
+            (within (lower t p) (upper t p) (length (left p ++ cond (isObjectNode (kind t p)) (came p) []))) (eqb (length (left p ++ cond (isObjectNode (kind t p)) (came p) [])) 0)) ≡ true
         by true e =
             let k = eqb-true (kind t p) 3 e in
             rw (k, action-of p l k .1) (pin k (m .runs (owner t p)) refl (any (belongs t (owner t p)) (takenEnds on c)) refl)

@@ -4,9 +4,9 @@ use mathlib.Core.Path.{_≡_}
 use mathlib.Core.Bool.{Bool, true, false, not, _&&_, _||_, cond}
 use mathlib.Core.List.{List, [], _∷_, _++_}
 use mathlib.Core.Option.{Option, none}
-use lib.Dec.{leb, ltb, eqb}
+use lib.Dec.{ltb, eqb}
 use lib.ListN.{length}
-use Rattle.paper.specs.Lists.{at, below, all, keep, gather, each, oneIf, _⇒_}
+use Rattle.paper.specs.Lists.{at, below, all, keep, gather, each, oneIf, within, _⇒_}
 use Rattle.paper.specs.Bytes.{sized, listed, framed, Reader, _>>=_, done, fail, byte, upTo, valuesRead, whole}
 use Rattle.paper.specs.Table.{nodes, edges, kind, owner, lower, upper, source, isControl, isInitial, isAction, isInput, isObjectNode, isOutgoing}
 
@@ -75,11 +75,11 @@ module _ (t : List ℕ) where
     m′ ← fieldRead m f
     fieldsRead fs m′
 
-  -- "Input pins are empty if their action is idle, and hold lower to upper values while it runs." (No stock exceeds upper.)
+  -- "Input pins are empty if their action is idle, and hold lower to upper values while it runs."
   unfoldable pub pinFine : Marking → ℕ → Bool
   pinFine m p =
       isInput (kind t p)
-      ⇒ cond (m .runs (owner t p)) (leb (lower t p) (length (m .stock p))) (eqb (length (m .stock p)) 0)
+      ⇒ cond (m .runs (owner t p)) (within (lower t p) (upper t p) (length (m .stock p))) (eqb (length (m .stock p)) 0)
 
   -- "In an ended marking all but outgoing parameters is empty, idle and 0."
   unfoldable pub cleared : Marking → Field → Bool

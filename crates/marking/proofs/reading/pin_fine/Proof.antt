@@ -47,7 +47,7 @@ returns-2 c = let a = c .before .before .before .before .before .before .before 
     λ m n.
     let r = c .before .before .noted2 .ensures .0 ∙ ap (λ x. at (a .b .now) (at (a .places .now) x)) (c .before .before .before .owner .ensures .0) ∙ runs-at n (owner (a .t .now) (a .p)) (o .0) (o .1) .1 in
     ap₂ leb (c .lower .ensures .0) (c .before .before .before .before .noted .ensures .0 ∙ held-at n (a .p) (omega arith) (ap isObjectNode k) .1)
-    ∙ sym (pin-runs (a .t .now) m (a .p) (ap isInput k) (c .before .before .noted2 .result) r (c .before .if2 .taken))
+    ∙ sym (pin-runs (a .t .now) m (a .p) (ap isInput k) (c .before .before .noted2 .result) r (c .before .if2 .taken) (n .node (a .p) (omega arith) .room (ap isObjectNode k)))
 
 returns-3 : tie.Need-returns-3
 returns-3 c = let a = c .before .before .before .before .before .before .before .before .before .args in
