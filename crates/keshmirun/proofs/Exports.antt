@@ -1,18 +1,27 @@
 -- The exported functions: what their callers learn from their contracts is `Leaves` of the paper's answers on what they are lent, so every theorem on
--- `Leaves (AllowedBy ..)` is one on them (same bytes, same answer; the word; enough room), and on the call of a case of the small event they leave its answer.
+-- `Leaves (AllowedBy ..)` is one on them (same bytes, same answer; enough room). Their words settle number, place and length, a pick's 0 and 13 mean what a
+-- judge takes them for, and on the call of a case of the small event they leave its answer.
 -- `a` are the arguments as lent, in their order, `word` is what is returned, `z` are the arguments at the end. Assumes nothing.
-use mathlib.Core.Path.{_≡_, subst}
+use mathlib.Core.Path.{_≡_, refl, ap, subst}
+use mathlib.Core.Bool.{Bool, true, false, cond}
 use mathlib.Core.List.{List, []}
-use Prim.Native.Nat.{ℕ}
+use Prim.Native.Nat.{ℕ, _<_}
+use native.Mathlib.Omega.{arith}
+use lib.Dec.{leb}
 use lib.ListN.{length}
 use contract.Lifetimes.{Lfts}
 use denote.Triple.Clauses.{AtExit}
 use borrow.Fn.Kinds.{PK, RK, Dens, GoodsP, resT, endedOf, Out}
-use Rattle.paper.specs.Operations.{Leaves}
+use Rattle.paper.specs.Answers.{Answer, refused, good}
+use Rattle.paper.specs.Choices.{Board, board, taken}
+use Rattle.paper.specs.Operations.{packed, inRoom, Leaves}
+use Rattle.paper.proofs.Bools.{never}
+use Rattle.paper.proofs.Lengths.{length-zero}
 use Rattle.paper.proofs.Members.{In}
 use Rattle.paper.proofs.Calls.{Call, checks, starts, sheets, picks, steps, finishes, AllowedBy}
 use Rattle.paper.proofs.SameAnswer.{Left}
-use Rattle.paper.proofs.OneWord.{SaysAnswer, says-answer}
+use Rattle.paper.proofs.PickMeans.{Takable, HasEndOf, empty-means-nothing-can-be-taken, refused-means-none-for-the-node}
+use Rattle.paper.proofs.OneWord.{Says, SaysAnswer, says-answer}
 use Rattle.paper.proofs.SmallEvent.{Case, cases, small-event}
 use Rattle.keshmirun.proofs.check.Kinds as CheckKinds
 use Rattle.keshmirun.proofs.check.Reads as Check
@@ -82,6 +91,39 @@ pub finish-says : Promises 4 FinishKinds.ps FinishKinds.r Finish.Learnt
     (λ κs a word z. SaysAnswer (finishes (a .0 .now) (a .1 .0 .now) (a .1 .1 .0) (a .1 .1 .1 .0 .now)) (length (a .1 .1 .1 .1 .0 .now)) word)
 finish-says κs a word z h =
     says-answer (finishes (a .0 .now) (a .1 .0 .now) (a .1 .1 .0) (a .1 .1 .1 .0 .now)) tt word (a .1 .1 .1 .1 .0 .now) (z .1 .1 .1 .1 .0 .now) (finish-promises κs a word z h)
+
+-- ---- pick's word to a judge
+-- of an answer, cut to the room, the word 0 says that it is the empty choice, and 13's that it is a refusal
+word-0 : (room w : ℕ) (x : Answer (List ℕ)) → w ≡ 0 → Says w (inRoom room x) → x ≡ good []
+word-0 room w (refused n p) e s = never true refl (rw e at (s .granted))
+word-0 room w (good b) e s = by (leb (length b) room) s
+  where
+    by : (k : Bool) → Says w (cond k (good b) (refused 17 0)) → good b ≡ good []
+    by true s = ap good (length-zero b (omega (arith, e, s .len)))
+    by false s = never true refl (rw e at (s .granted))
+
+word-13 : (room n w : ℕ) (x : Answer (List ℕ)) → n < 256 → w ≡ packed 13 n 0 → Says w (inRoom room x) → (k : ℕ) × (p : ℕ) × (x ≡ refused k p)
+word-13 room n w (refused k p) l e s = (k, p, refl)
+word-13 room n w (good b) l e s = by (leb (length b) room) s
+  where
+    by : (k : Bool) → Says w (cond k (good b) (refused 17 0)) → (k : ℕ) × (p : ℕ) × (good b ≡ refused k p)
+    by true s = absurd (omega (arith, e, s .number))
+    by false s = absurd (omega (arith, e, s .number))
+
+module _ (κs : Lfts 4) (a : Dens κs PickKinds.ps) (g : GoodsP κs PickKinds.ps a) (word : resT PickKinds.r κs .Denot) (z : AtExit (endedOf 4 PickKinds.ps PickKinds.r) κs)
+    (h : Pick.Learnt κs a word z) (d : Board) (on : board (a .0 .now) (a .1 .0 .now) (a .1 .1 .0 .now) ≡ good d) where
+  -- 0: no end at all can be taken
+  pub pick-0-means-nothing-can-be-taken : word ≡ 0 → (x : ℕ) → Takable d x → taken d x ≡ []
+  pick-0-means-nothing-can-be-taken e =
+      let s = pick-says κs a g word z h in
+      empty-means-nothing-can-be-taken (a .0 .now) (a .1 .0 .now) (a .1 .1 .0 .now) d on (a .1 .1 .1 .0) (rw (word-0 _ word (s .0) e (s .2)) at (s .1))
+
+  -- 13: no acceptable set has an end of the node
+  pub pick-13-means-none-for-the-node : word ≡ packed 13 (a .1 .1 .1 .0) 0 → (x : ℕ) → Takable d x → HasEndOf d (a .1 .1 .1 .0) x → ⊥
+  pick-13-means-none-for-the-node e =
+      let s = pick-says κs a g word z h in
+      let r = word-13 _ (a .1 .1 .1 .0) word (s .0) (g .1 .1 .1 .0 .1) e (s .2) in
+      refused-means-none-for-the-node (a .0 .now) (a .1 .0 .now) (a .1 .1 .0 .now) d on (a .1 .1 .1 .0) (r .0) (r .1) (rw (r .2) at (s .1))
 
 -- ---- the small event: on the call of a row of the table, an export leaves the row's answer
 case-left : (r : Case) → In r cases → (call : Call) → call ≡ r .call → (word : ℕ) (before after : List ℕ) → Leaves (AllowedBy call) word before after → Left (r .answer) word before after
