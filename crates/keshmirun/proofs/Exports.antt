@@ -19,7 +19,7 @@ use Rattle.paper.proofs.Bools.{never}
 use Rattle.paper.proofs.Lengths.{length-zero}
 use Rattle.paper.proofs.Members.{In}
 use Rattle.paper.proofs.Calls.{Call, checks, starts, sheets, picks, steps, finishes, AllowedBy}
-use Rattle.paper.proofs.SameAnswer.{Left}
+use Rattle.paper.proofs.SameAnswer.{Left, refused-left}
 use Rattle.paper.proofs.PickMeans.{Takable, HasEndOf, empty-means-nothing-can-be-taken, refused-means-none-for-the-node}
 use Rattle.paper.proofs.OneWord.{Says, SaysAnswer, says-answer}
 use Rattle.paper.proofs.SmallEvent.{Case, cases, small-event}
@@ -145,3 +145,16 @@ module _ (r : Case) (row : In r cases) where
   pub finish-case : Promises 4 FinishKinds.ps FinishKinds.r Finish.Learnt
       (λ κs a word z. finishes (a .0 .now) (a .1 .0 .now) (a .1 .1 .0) (a .1 .1 .1 .0 .now) ≡ r .call → Left (r .answer) word (a .1 .1 .1 .1 .0 .now) (z .1 .1 .1 .1 .0 .now))
   finish-case κs a word z h e = case-left r row _ e word (a .1 .1 .1 .1 .0 .now) (z .1 .1 .1 .1 .0 .now) (finish-promises κs a word z h)
+
+  -- a refused row's word, whatever is lent, and every byte as it was: 10 place 0, 13 place 2, 12 place 6, 11 place 2
+  module _ (n p : ℕ) (q : r .answer ≡ refused n p) where
+    refused-case : (word : ℕ) (before after : List ℕ) → Left (r .answer) word before after → (word ≡ packed n p 0) × (after ≡ before)
+    refused-case word before after l = refused-left (subst (λ (x : Answer (List ℕ)). Left x word before after) q l)
+
+    pub pick-refused-case : Promises 4 PickKinds.ps PickKinds.r Pick.Learnt
+        (λ κs a word z. picks (a .0 .now) (a .1 .0 .now) (a .1 .1 .0 .now) (a .1 .1 .1 .0) ≡ r .call → (word ≡ packed n p 0) × (z .1 .1 .1 .1 .0 .now ≡ a .1 .1 .1 .1 .0 .now))
+    pick-refused-case κs a word z h e = refused-case word (a .1 .1 .1 .1 .0 .now) (z .1 .1 .1 .1 .0 .now) (pick-case κs a word z h e)
+
+    pub step-refused-case : Promises 5 StepKinds.ps StepKinds.r Step.Learnt
+        (λ κs a word z. steps (a .0 .now) (a .1 .0 .now) (a .1 .1 .0 .now) (a .1 .1 .1 .0 .now) ≡ r .call → (word ≡ packed n p 0) × (z .1 .1 .1 .1 .0 .now ≡ a .1 .1 .1 .1 .0 .now))
+    step-refused-case κs a word z h e = refused-case word (a .1 .1 .1 .1 .0 .now) (z .1 .1 .1 .1 .0 .now) (step-case κs a word z h e)
