@@ -1,4 +1,4 @@
--- The program `sheet` ("The small event"): how its input is cut, and every byte it writes. Assumes nothing.
+-- The program `sheet` ("The small event"): what it reads, how that is cut, and every byte it writes. Assumes nothing.
 use Prim.Native.Nat.{ℕ, zero, suc, _+_, _*_, _/_, _%_}
 use mathlib.Core.Path.{_≡_}
 use mathlib.Core.Bool.{cond}
@@ -11,6 +11,14 @@ use Rattle.paper.specs.Answers.{Answer, refused, good}
 use Rattle.paper.specs.Offers.{lastEdge, value, sortedPaths, targetOf}
 use Rattle.paper.specs.Choices.{Board, board, howMany, end}
 use Rattle.paper.specs.Operations.{Pick}
+
+-- ---- "It reads the first 8,192 bytes at most; no good input is longer."
+abbrev pub mostInput : ℕ
+mostInput = 8192
+
+-- what is read of an input: the stream that is cut
+abbrev pub readOf : List ℕ → List ℕ
+readOf input = take mostInput input
 
 -- ---- "Table and marking are the parts their length fields give .. a short stream hands on what there is; the guards are the rest."
 -- the length of the part in front
@@ -85,3 +93,7 @@ pub record Prints (s written : List ℕ) : Type 0 where
   pub picked : Answer (List ℕ)
   pub allowed : Pick (tablePart s) (markingPart s) (guardsPart s) 255 picked
   pub is-text : written ≡ text (board (tablePart s) (markingPart s) (guardsPart s)) picked
+
+-- what is written for an input, however long it is: the text of what is read of it
+abbrev pub PrintsFor : List ℕ → List ℕ → Type 0
+PrintsFor input written = Prints (readOf input) written

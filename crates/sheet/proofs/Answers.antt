@@ -5,24 +5,21 @@ use native.Mathlib.Omega.{arith}
 use mathlib.Core.Bool.{false}
 use mathlib.Core.List.{List, _++_}
 use lib.ListN.{length, take, drop, length-append}
-use lib.Seq.{take-append-seam, take-at, take-all}
+use lib.Seq.{take-append-seam, take-at}
 use borrow.Author.Tests.{le-leb}
 use Rattle.paper.specs.Lists.{has, below}
 use Rattle.paper.specs.Answers.{Answer, refused, good}
 use Rattle.paper.specs.Choices.{Board, board, howMany, taken}
 use Rattle.paper.specs.Operations.{sheet, sheetBytes, Pick, PickOn, packed, inRoom, Reply, Leaves, Only}
-use Rattle.paper.specs.Program.{tablePart, markingPart, guardsPart, refusalText, boardText, text, Prints}
+use Rattle.paper.specs.Program.{readOf, tablePart, markingPart, guardsPart, refusalText, boardText, Prints, PrintsFor}
 use Rattle.paper.proofs.Bools.{never}
 use Rattle.paper.proofs.Bytes.{Bytes}
-use Rattle.paper.proofs.Inputs.{input-fits}
 use Rattle.paper.proofs.Lengths.{length-keep, length-from}
-use Rattle.paper.proofs.Picks.{pick-unique}
 use Rattle.paper.proofs.Sizes.{few-ends}
 use Rattle.numbers.specs.Written.{Printed}
 use Rattle.text.specs.Sheets.{Sheet}
 use Rattle.text.proofs.Meaning.{sheet-fits}
 use Rattle.sheet.specs.Shown.{Shown, PrintsParts}
-use Rattle.sheet.specs.Input.{mostInput, readOf, PrintsFor}
 use Rattle.sheet.proofs.Refusals.{board-plain}
 
 -- ---- the numbers that were read from a word
@@ -126,20 +123,6 @@ module _ (t m g : List ℕ) {old new : List ℕ} {r : ℕ} where
 pub prints : {t m g : List ℕ} (s written : List ℕ) → t ≡ tablePart s → m ≡ markingPart s → g ≡ guardsPart s → PrintsParts t m g written → Prints s written
 prints s written a b c p = record { picked = p .picked; allowed = rw (a, b, c) at (p .allowed); is-text = rw (a, b, c) at (p .is-text) }
 
--- two texts that may be printed for a stream are one
-pub prints-unique : (s a b : List ℕ) → Prints s a → Prints s b → a ≡ b
-prints-unique s a b p q =
-    p .is-text
-    ∙ ap (text (board (tablePart s) (markingPart s) (guardsPart s))) (pick-unique (tablePart s) (markingPart s) (guardsPart s) 255 (p .picked) (q .picked) (p .allowed) (q .allowed))
-    ∙ sym (q .is-text)
-
 -- for an input of which the stream was read
 pub prints-for : {s written : List ℕ} (input : List ℕ) → s ≡ readOf input → Prints s written → PrintsFor input written
 prints-for {written = written} input e p = subst (λ (s : List ℕ). Prints s written) e p
-
-pub prints-for-unique : (input a b : List ℕ) → PrintsFor input a → PrintsFor input b → a ≡ b
-prints-for-unique input a b p q = prints-unique (readOf input) a b p q
-
--- "no good input is longer": all of it is read
-pub read-whole : (input : List ℕ) (d : Board) → Bytes input → board (tablePart input) (markingPart input) (guardsPart input) ≡ good d → readOf input ≡ input
-read-whole input d u h = take-all mostInput input (input-fits input d u h)

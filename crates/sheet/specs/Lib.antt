@@ -1,3 +1,2 @@
--- What is known of a stream once its sheet is there, and what is read and printed.
+-- What is known of a stream once its sheet is there.
 pub mod Shown
-pub mod Input

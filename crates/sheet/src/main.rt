@@ -1,12 +1,12 @@
 // The program `sheet`: reads a table, a marking and guards, one after another, and prints the ends on offer and the pick, or the refusal.
-// `describe` makes the text, and its promise is the paper's (`PrintsFor`): of an input however long, if what it is lent is the first 8,192 bytes of it.
-// That those are read, and that the text is printed, no contract can say.
+// `describe` makes the text, and its promise is the paper's (`PrintsFor`): for an input however long, if what it is lent is what is read of it (`readOf`).
+// That just this is read, and that the text is printed, no contract can say.
 ghost use mathlib.Core.Path.{_≡_};
 ghost use mathlib.Core.List.{List};
 ghost use Prim.Native.Nat.{ℕ, _≤_};
 ghost use lib.ListN.{length, take};
+ghost use Rattle.paper.specs.Program.{mostInput, readOf, PrintsFor};
 ghost use Rattle.sheet.specs.Shown.{Shown, PrintsPick, PrintsParts};
-ghost use Rattle.sheet.specs.Input.{mostInput, readOf, PrintsFor};
 use libc::STDIN_FILENO;
 use libc::STDOUT_FILENO;
 
