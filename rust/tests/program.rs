@@ -1,5 +1,5 @@
-//! The program `sheet`, run as the gate runs it, on inputs of every kind: good ones, none, short and cut ones, longer ones than it reads, and refused
-//! ones. What it prints is the paper's text of what the plain reading answers for the parts of its input.
+//! The program `sheet`, run as the gate runs it, on inputs of every kind: good ones, none, short and cut ones, longer ones than it reads, and ones that
+//! each row refuses. It reads the first 8,192 bytes at most, and all that it prints is the paper's text of what the plain reading answers for their parts.
 
 mod common;
 
@@ -8,7 +8,7 @@ use reading::random::{Event, Rng};
 use reading::{pick_within, sheet_within, Answer, NO_NODE};
 use std::collections::BTreeMap;
 use std::fs::{read, read_to_string, remove_file, write, File};
-use std::io::Write;
+use std::io::{Seek, Write};
 use std::path::{Path, PathBuf};
 use std::process::{Command, Stdio};
 use std::thread;
@@ -39,13 +39,17 @@ fn program(input: Stdio) -> Command {
     program
 }
 
-/// What the program prints for these bytes in a file.
+/// What the program prints for these bytes in a file, of which it reads the first 8,192 and no more.
 fn printed(input: &[u8]) -> String {
-    let file = Path::new(env!("CARGO_TARGET_TMPDIR")).join(format!("sheet-{:?}", thread::current().id()));
-    write(&file, input).expect("a file for the input");
-    let ran = program(Stdio::from(File::open(&file).expect("the input"))).output().expect("tools/program");
-    remove_file(&file).expect("the input");
+    let path = Path::new(env!("CARGO_TARGET_TMPDIR")).join(format!("sheet-{:?}", thread::current().id()));
+    write(&path, input).expect("a file for the input");
+    let file = File::open(&path).expect("the input");
+    // it shares with the program's input the place up to which it was read
+    let mut read = file.try_clone().expect("the input");
+    let ran = program(Stdio::from(file)).output().expect("tools/program");
+    remove_file(&path).expect("the input");
     assert!(ran.status.success(), "{ran:?}");
+    assert_eq!(read.stream_position().expect("a place"), input.len().min(MOST_INPUT) as u64, "bytes read of {}", input.len());
     String::from_utf8(ran.stdout).expect("text")
 }
 
@@ -119,6 +123,34 @@ fn the_small_event() {
     assert_eq!(printed(&small_event()), small_text());
 }
 
+/// An initial node with an edge to a flow final, which has a token or none.
+#[test]
+fn short_and_good() {
+    for (tokens, text) in [(1, "ends 1\n0 0 1 - 0\npick 0\n"), (0, "ends 0\npick -\n")] {
+        let input = [0, 15, 1, 2, 1, 1, 255, 0, 0, 12, 255, 0, 0, 0, 0, 1, 0, 0, 3, 1, 0, tokens, 1];
+        assert_eq!(printed(&input), text);
+        assert_eq!(expected(&input), Some((String::from(text), 0)));
+    }
+}
+
+/// A buffer with a value and so many edges to a flow final.
+fn rivals(edges: u8) -> Vec<u8> {
+    let nodes = [5, 255, 0, 1, 12, 255, 0, 0];
+    let table = [&[0, 11 + 4 * edges, 1, 2, edges][..], &nodes, &[1, 0, 1, 0].repeat(edges.into())].concat();
+    [&table[..], &[0, 7, 1, 0, 1, 255, 255, 255, 255], &vec![1; edges.into()]].concat()
+}
+
+/// 20 ends, of which any two compete, and 21.
+#[test]
+fn most_ends_and_one_more() {
+    let lines: String = (0..20).map(|end| format!("{end} {end} 1 4294967295 {end}\n")).collect();
+    let text = format!("ends 20\n{lines}pick 0\n");
+    assert_eq!(printed(&rivals(20)), text);
+    assert_eq!(expected(&rivals(20)), Some((text, 0)));
+    assert_eq!(printed(&rivals(21)), "refused 8 0\n");
+    assert_eq!(expected(&rivals(21)), Some((String::from("refused 8 0\n"), 8)));
+}
+
 /// Nothing at all, and the small event cut in its table, its marking and its guards, and between them.
 #[test]
 fn short_and_cut() {
@@ -146,7 +178,7 @@ fn longer_than_what_is_read() {
     }
 }
 
-/// One change of the small event for each row that can refuse it.
+/// One change of the small event for each row from 1 to 7 (row 8 is tried above; no other can come).
 #[test]
 fn refused_by_each_row() {
     let changes = [
