@@ -1,4 +1,4 @@
--- Every size that the paper sets, in one place. Assumes nothing.
+-- The sizes that the paper sets for tables, markings and offers, in one place; how much the program reads stands with it (Program). Assumes nothing.
 use Prim.Native.Nat.{ℕ}
 
 pub record Limits : Type 0 where
