@@ -1,7 +1,8 @@
 //! The six operations timed beside the plain reading of the paper, in one run and build: the small event, a day of 41 nodes and 40 edges with 11 ends, the
 //! limits, and events on which joins or picks are hard: forks of decisions, and what was hunted for by climbing (`crates/vectors/worst.txt`). Prints medians
 //! in microseconds, how many times as long the reading takes, the bytes of stack that the engine's call takes, and for the last the states that pick's
-//! search visits: the archive doesn't count them, the gate holds the engine to the numbers of that file.
+//! search visits: the archive doesn't count them, the gate holds the engine to the numbers of that file. The day's sheet and pick are timed under a long
+//! bounds list too, and a line says how many times as long that takes as without bounds.
 //!
 //!     cargo run --release --example bench
 
@@ -14,7 +15,7 @@ mod stack;
 
 use events::list;
 use hard::HARD;
-use keshmirun::{Refusal, NO_NODE};
+use keshmirun::{bounds_list, Refusal, Terms, NO_BOUNDS, NO_NODE};
 use reading::Answer;
 use std::time::{Duration, Instant};
 
@@ -41,15 +42,17 @@ struct Point {
 
 fn main() -> Result<(), Refusal> {
     println!("{:8} {:18} {:>11} {:>12} {:>9} {:>7} {:>7}", "", "", "engine us", "reading us", "ratio", "stack", "states");
-    for point in [small()?, day()?, limits()?] {
-        all_six(&point);
-    }
+    all_six(&small()?);
+    let day = day()?;
+    let without = all_six(&day);
+    under_bounds(&day, without);
+    all_six(&limits()?);
     for (number, event) in HARD.iter().enumerate() {
         let name = format!("hard {}", number + 1);
         let (table, marking, guards) = (hex(event.table), hex(event.marking), hex(event.guards));
-        sheet(&name, &table, &marking, &guards);
+        sheet(&name, &table, &marking, &guards, &NO_BOUNDS);
         for node in event.nodes {
-            pick(&format!("{name} for {node}"), &table, &marking, &guards, *node);
+            pick(&format!("{name} for {node}"), &table, &marking, &guards, &NO_BOUNDS, *node);
         }
     }
     let slowest = worst().fold(0.0, f64::max);
@@ -69,8 +72,8 @@ fn worst() -> impl Iterator<Item = f64> {
             "pick",
             &name,
             words[4],
-            |out| keshmirun::pick(&table, &marking, &guards, node, out),
-            || reading::pick_within(&table, &marking, &guards, node, 4096, BUDGET),
+            |out| keshmirun::pick(&table, &marking, Terms::new(&guards), node, out),
+            || reading::pick_within(&table, &marking, &guards, &NO_BOUNDS, node, 4096, BUDGET),
         )
     })
 }
@@ -80,7 +83,7 @@ fn small() -> Result<Point, Refusal> {
     let table = events::small().table;
     let values = list(&[7, 9]);
     let marking = written(|out| keshmirun::start(&table, &values, out))?;
-    let running = written(|out| keshmirun::step(&table, &marking, &[1; 5], &[1], out))?;
+    let running = written(|out| keshmirun::step(&table, &marking, Terms::new(&[1; 5]), &[1], out))?;
     let name = String::from("small event");
     Ok(Point { name, values, marking, guards: vec![1; 5], choice: vec![1], running, action: 5, results: Vec::new(), table })
 }
@@ -93,13 +96,13 @@ fn day() -> Result<Point, Refusal> {
     guards[events::TO_RESERVE] = 0;
     let mut marking = written(|out| keshmirun::start(&table, &values, out))?;
     for _ in 0..4 {
-        let choice = written(|out| keshmirun::pick(&table, &marking, &guards, NO_NODE, out))?;
-        marking = written(|out| keshmirun::step(&table, &marking, &guards, &choice, out))?;
+        let choice = written(|out| keshmirun::pick(&table, &marking, Terms::new(&guards), NO_NODE, out))?;
+        marking = written(|out| keshmirun::step(&table, &marking, Terms::new(&guards), &choice, out))?;
     }
     marking = written(|out| keshmirun::finish(&table, &marking, 8, &[], out))?;
     guards[events::TO_RESERVE] = 1;
-    let choice = written(|out| keshmirun::pick(&table, &marking, &guards, NO_NODE, out))?;
-    let running = written(|out| keshmirun::step(&table, &marking, &guards, &choice, out))?;
+    let choice = written(|out| keshmirun::pick(&table, &marking, Terms::new(&guards), NO_NODE, out))?;
+    let running = written(|out| keshmirun::step(&table, &marking, Terms::new(&guards), &choice, out))?;
     let results = [list(&[17]), list(&[40])].concat();
     Ok(Point { name: String::from("day"), table, values, marking, guards, choice, running, action: 10, results })
 }
@@ -118,18 +121,19 @@ fn written(operation: impl Fn(&mut [u8]) -> Result<usize, Refusal>) -> Result<Ve
     Ok(out[..length].to_vec())
 }
 
-fn all_six(point: &Point) {
+/// How long sheet takes, and pick.
+fn all_six(point: &Point) -> [f64; 2] {
     let Point { name, table, values, marking, guards, choice, running, action, results } = point;
     row("check", name, "", |_| keshmirun::check(table).map(|_| 0), || Some(reading::check(table)));
     row("start", name, "", |out| keshmirun::start(table, values, out), || Some(reading::start(table, values, 4096)));
-    sheet(name, table, marking, guards);
-    pick(name, table, marking, guards, NO_NODE);
+    let sheet = sheet(name, table, marking, guards, &NO_BOUNDS);
+    let pick = pick(name, table, marking, guards, &NO_BOUNDS, NO_NODE);
     row(
         "step",
         name,
         "",
-        |out| keshmirun::step(table, marking, guards, choice, out),
-        || reading::step_within(table, marking, guards, choice, 4096, BUDGET),
+        |out| keshmirun::step(table, marking, Terms::new(guards), choice, out),
+        || reading::step_within(table, marking, guards, &NO_BOUNDS, choice, 4096, BUDGET),
     );
     row(
         "finish",
@@ -138,20 +142,38 @@ fn all_six(point: &Point) {
         |out| keshmirun::finish(table, running, *action, results, out),
         || Some(reading::finish(table, running, *action, results, 4096)),
     );
+    [sheet, pick]
 }
 
-fn sheet(name: &str, table: &[u8], marking: &[u8], guards: &[u8]) {
-    row("sheet", name, "", |out| keshmirun::sheet(table, marking, guards, out), || reading::sheet_within(table, marking, guards, 4096, BUDGET));
+/// Sheet and pick with all object edges listed and nothing barred, so that all else is as without bounds.
+fn under_bounds(Point { name, table, marking, guards, .. }: &Point, without: [f64; 2]) {
+    let edges = &table[5 + 4 * usize::from(table[3])..];
+    let entries: Vec<_> = (0..table[4]).filter(|edge| edges[4 * usize::from(*edge)] == 1).map(|edge| (edge, 0..=u32::MAX)).collect();
+    let bounds = bounds_list(&entries);
+    let name = format!("{name}, {} bounded", entries.len());
+    let sheet = sheet(&name, table, marking, guards, &bounds) / without[0];
+    let pick = pick(&name, table, marking, guards, &bounds, NO_NODE) / without[1];
+    println!("{name}: sheet takes {sheet:.2} times as long as without bounds, pick {pick:.2} times");
 }
 
-fn pick(name: &str, table: &[u8], marking: &[u8], guards: &[u8], node: u8) {
+fn sheet(name: &str, table: &[u8], marking: &[u8], guards: &[u8], bounds: &[u8]) -> f64 {
+    row(
+        "sheet",
+        name,
+        "",
+        |out| keshmirun::sheet(table, marking, Terms::new(guards).with_bounds(bounds), out),
+        || reading::sheet_within(table, marking, guards, bounds, 4096, BUDGET),
+    )
+}
+
+fn pick(name: &str, table: &[u8], marking: &[u8], guards: &[u8], bounds: &[u8], node: u8) -> f64 {
     row(
         "pick",
         name,
         "",
-        |out| keshmirun::pick(table, marking, guards, node, out),
-        || reading::pick_within(table, marking, guards, node, 4096, BUDGET),
-    );
+        |out| keshmirun::pick(table, marking, Terms::new(guards).with_bounds(bounds), node, out),
+        || reading::pick_within(table, marking, guards, bounds, node, 4096, BUDGET),
+    )
 }
 
 /// Times both, and prints a line: how long the engine takes. Both must say the same, where the reading comes to its answer.

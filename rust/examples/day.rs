@@ -6,7 +6,7 @@
 mod events;
 
 use events::{list, Event, TO_RESERVE};
-use keshmirun::{Refusal, NO_NODE};
+use keshmirun::{Refusal, Terms, NO_NODE};
 
 fn main() {
     match play(&[40, 17, 23, 8, 31]) {
@@ -51,14 +51,15 @@ impl Day {
 
     /// Takes what the engine picks; false if that is nothing.
     fn take(&mut self) -> Result<bool, Refusal> {
+        let terms = Terms::new(&self.guards);
         let mut sheet = [0; 4096];
-        let length = keshmirun::sheet(&self.event.table, &self.marking, &self.guards, &mut sheet)?;
+        let length = keshmirun::sheet(&self.event.table, &self.marking, terms, &mut sheet)?;
         let ends = self.ends(&sheet[..length]);
         let mut choice = [0; 20];
-        let taken = keshmirun::pick(&self.event.table, &self.marking, &self.guards, NO_NODE, &mut choice)?;
-        self.tell_sheet(&ends, &choice[..taken]);
+        let taken = keshmirun::pick(&self.event.table, &self.marking, terms, NO_NODE, &mut choice)?;
         let mut next = [0; 4096];
-        let length = keshmirun::step(&self.event.table, &self.marking, &self.guards, &choice[..taken], &mut next)?;
+        let length = keshmirun::step(&self.event.table, &self.marking, terms, &choice[..taken], &mut next)?;
+        self.tell_sheet(&ends, &choice[..taken]);
         self.marking = next[..length].to_vec();
         Ok(taken > 0)
     }

@@ -2,7 +2,8 @@
  * each, x86_64-unknown-linux-gnu and aarch64-unknown-linux-gnu. All names begin with `keshmirun_`, so that none clashes with a name of yours.
  *
  * A slice is a pointer and a length. An operation reads its inputs, writes its reply to the front of `out`, and keeps nothing; a refused call
- * changes no byte. Inputs and `out` must not overlap. Formats and numbers are those of the paper "Token flow, tables and markings". */
+ * changes no byte. Inputs and `out` must not overlap. Formats and numbers are those of the paper "Token flow, tables and markings" and, for bounds, of
+ * the wish "Guards that read the result". */
 #ifndef KESHMIRUN_H
 #define KESHMIRUN_H
 
@@ -12,6 +13,9 @@
 #ifdef __cplusplus
 extern "C" {
 #endif
+
+/* The version of these calls; header and archive must be of the same. 1 had sheet, pick and step without bounds; those forms are gone. */
+#define KESHMIRUN_VERSION 2
 
 /* Every operation answers one word: refusal * 2^48 + place * 2^32 + length. The refusal is 0 if there is none, and its place and the length are then 0
  * and what was written. */
@@ -26,23 +30,31 @@ extern "C" {
 #define KESHMIRUN_ROOM 4096
 #define KESHMIRUN_MOST_ENDS 20
 
+/* The bounds list of no edge: hand it on as `keshmirun_no_bounds, sizeof keshmirun_no_bounds` where values aren't bounded. An empty slice is no list. */
+#ifdef __GNUC__
+__attribute__((unused))
+#endif
+static const uint8_t keshmirun_no_bounds[4] = {0, 2, 1, 0};
+
 /* Checks a diagram table. Refusals 1 to 4. */
 uint64_t keshmirun_check(const uint8_t *table, size_t table_len);
 
 /* Writes the marking with which an activity begins; `values`: per incoming parameter a count and 4-byte values. Refusals 1 to 4, 15 to 17. */
 uint64_t keshmirun_start(const uint8_t *table, size_t table_len, const uint8_t *values, size_t values_len, uint8_t *out, size_t out_len);
 
-/* Writes the sheet of offered ends; `guards`: per edge 1 or 0. Refusals 1 to 8, 17. */
+/* Writes the sheet of offered ends; `guards`: per edge 1 or 0; `bounds`: length (2 bytes), 1, a count, then per object edge that is listed, rising, its
+ * number and the least and the greatest value, 4 bytes each, that may go over it. Refusals 1 to 8, 17, 18 (the bounds list, judged after 7 and before 8). */
 uint64_t keshmirun_sheet(const uint8_t *table, size_t table_len, const uint8_t *marking, size_t marking_len, const uint8_t *guards, size_t guards_len,
-                         uint8_t *out, size_t out_len);
+                         const uint8_t *bounds, size_t bounds_len, uint8_t *out, size_t out_len);
 
-/* Writes the first acceptable choice of ends; with a node named, the first that has an end of it. Refusals 1 to 8, 13, 17. */
+/* Writes the first acceptable choice of ends; with a node named, the first that has an end of it. Refusals 1 to 8, 13, 17, 18. */
 uint64_t keshmirun_pick(const uint8_t *table, size_t table_len, const uint8_t *marking, size_t marking_len, const uint8_t *guards, size_t guards_len,
-                        uint8_t node, uint8_t *out, size_t out_len);
+                        const uint8_t *bounds, size_t bounds_len, uint8_t node, uint8_t *out, size_t out_len);
 
-/* Writes the marking after a choice of ends is taken; `choice`: rising numbers of the sheet's ends. Refusals 1 to 12, 17. */
+/* Writes the marking after a choice of ends is taken; `choice`: rising numbers of the sheet's ends, under the same guards and bounds. Refusals 1 to 12, 17,
+ * 18. */
 uint64_t keshmirun_step(const uint8_t *table, size_t table_len, const uint8_t *marking, size_t marking_len, const uint8_t *guards, size_t guards_len,
-                        const uint8_t *choice, size_t choice_len, uint8_t *out, size_t out_len);
+                        const uint8_t *bounds, size_t bounds_len, const uint8_t *choice, size_t choice_len, uint8_t *out, size_t out_len);
 
 /* Writes the marking after an action ends; `values`: per output pin a count and 4-byte values. Refusals 1 to 6, 14 to 17. */
 uint64_t keshmirun_finish(const uint8_t *table, size_t table_len, const uint8_t *marking, size_t marking_len, uint8_t action, const uint8_t *values,

@@ -4,8 +4,10 @@
 //! them slices, and takes the answer word apart. It holds nothing between calls.
 
 mod refusal;
+mod terms;
 
 pub use refusal::Refusal;
+pub use terms::{bounds_list, Terms, NO_BOUNDS};
 
 /// The archive's operations, under names that no other library has. A slice is a pointer and a length; nothing checks these declarations against the
 /// archive but the tests.
@@ -25,6 +27,8 @@ mod archive {
             marking_len: usize,
             guards: *const u8,
             guards_len: usize,
+            bounds: *const u8,
+            bounds_len: usize,
             out: *mut u8,
             out_len: usize,
         ) -> u64;
@@ -37,6 +41,8 @@ mod archive {
             marking_len: usize,
             guards: *const u8,
             guards_len: usize,
+            bounds: *const u8,
+            bounds_len: usize,
             node: u8,
             out: *mut u8,
             out_len: usize,
@@ -50,6 +56,8 @@ mod archive {
             marking_len: usize,
             guards: *const u8,
             guards_len: usize,
+            bounds: *const u8,
+            bounds_len: usize,
             choice: *const u8,
             choice_len: usize,
             out: *mut u8,
@@ -126,16 +134,19 @@ pub fn start(table: &[u8], values: &[u8], out: &mut [u8]) -> Result<usize, Refus
 
 /// Writes the sheet of offered ends to the front of `out`, and returns its length.
 ///
-/// `guards` holds a byte for each edge, 1 if tokens may go over it now; an edge that the table doesn't call guarded has 1. The sheet is its length (2 bytes),
-/// version 1 and the number of ends; then, for each end in the paper's order, its last edge, 1 or 0 for value or none, four value bytes, the number of
-/// its paths, and each path as its length and its edges. 4,096 bytes hold any sheet. A refused call leaves `out` as it was.
+/// [`Terms`] say over which edges tokens may go now, and with which values. The sheet is its length (2 bytes), version 1 and the number of ends; then, for each
+/// end in the paper's order, its last edge, 1 or 0 for value or none, four value bytes, the number of its paths, and each path as its length and its edges.
+/// 4,096 bytes hold any sheet. A refused call leaves `out` as it was.
 ///
 /// # Errors
-/// Refusals 1 to 4 as for [`check`], 5 (the bytes are no marking of the table), 6 (the activity has ended), 7 (the guards' number or values), 8 (more than 64
-/// offers, 8 paths in an offer, or 20 ends) and 17 (`out` is shorter than the sheet); all places from 5 on are 0.
+/// In the order in which they are judged: refusals 1 to 4 as for [`check`], 5 (the bytes are no marking of the table), 6 (the activity has ended), 7 (the
+/// guards' number or values), 18 (the bounds list: its frame, an edge, their order, or low above high), 8 (more than 64 offers, 8 paths in an offer, or 20
+/// ends) and 17 (`out` is shorter than the sheet); all places from 5 on are 0.
 ///
 /// # Examples
 /// ```
+/// use keshmirun::Terms;
+///
 /// // the paper's small event: results (node 1) go by a decision (2) to a buffer (6), or by a join (3) to the pin (4) of an action (5)
 /// let table = [
 ///     0, 0x33, 1, 7, 5, //
@@ -144,19 +155,31 @@ pub fn start(table: &[u8], values: &[u8], out: &mut [u8]) -> Result<usize, Refus
 /// ];
 /// let marking = [0, 15, 1, 0, 2, 0, 0, 0, 7, 0, 0, 0, 9, 0, 0, 0, 1];
 /// let mut out = [0; 4096];
-/// let length = keshmirun::sheet(&table, &marking, &[1; 5], &mut out).unwrap();
+/// let length = keshmirun::sheet(&table, &marking, Terms::new(&[1; 5]), &mut out).unwrap();
 /// // two ends, on edges 3 and 4, both with value 7; the second needs two paths, since a join brings them together
 /// let ends = [3, 1, 0, 0, 0, 7, 1, 2, 1, 3, 4, 1, 0, 0, 0, 7, 2, 2, 0, 4, 3, 1, 2, 4];
 /// assert_eq!(out[..length], [&[0, 26, 1, 2][..], &ends].concat());
 ///
 /// // edge 3 closed: the second alone is left
-/// let length = keshmirun::sheet(&table, &marking, &[1, 1, 1, 0, 1], &mut out).unwrap();
+/// let length = keshmirun::sheet(&table, &marking, Terms::new(&[1, 1, 1, 0, 1]), &mut out).unwrap();
 /// assert_eq!(out[..length], [&[0, 16, 1, 1][..], &ends[10..]].concat());
 /// ```
-pub fn sheet(table: &[u8], marking: &[u8], guards: &[u8], out: &mut [u8]) -> Result<usize, Refusal> {
+pub fn sheet(table: &[u8], marking: &[u8], terms: Terms, out: &mut [u8]) -> Result<usize, Refusal> {
+    let Terms { guards, bounds } = terms;
     // SAFETY: the archive reads and writes only the bytes behind the pointers, as many as their lengths say, and keeps nothing.
     let word = unsafe {
-        archive::sheet(table.as_ptr(), table.len(), marking.as_ptr(), marking.len(), guards.as_ptr(), guards.len(), out.as_mut_ptr(), out.len())
+        archive::sheet(
+            table.as_ptr(),
+            table.len(),
+            marking.as_ptr(),
+            marking.len(),
+            guards.as_ptr(),
+            guards.len(),
+            bounds.as_ptr(),
+            bounds.len(),
+            out.as_mut_ptr(),
+            out.len(),
+        )
     };
     unpacked(word)
 }
@@ -167,14 +190,17 @@ pub const NO_NODE: u8 = 255;
 /// Writes the first acceptable choice of ends to the front of `out`, one byte an end, and returns how many it has.
 ///
 /// With a node named it is the first that has an end of that node, or of a pin of it if it is an action; [`NO_NODE`] names none. Of two choices the one that
-/// holds the lowest end held by only one of them comes first. [`step`] takes what `pick` answers. 20 bytes hold any choice. A refused call leaves `out` as it was.
+/// holds the lowest end held by only one of them comes first. [`step`] takes what `pick` answers on the same terms. 20 bytes hold any choice. A refused call
+/// leaves `out` as it was.
 ///
 /// # Errors
-/// Refusals 1 to 8 as for [`sheet`], 13 (a node is named and no acceptable choice has an end of it; the place is that node) and 17 (`out` is shorter than the
-/// choice).
+/// Refusals 1 to 8 and 18 as for [`sheet`], 13 (a node is named and no acceptable choice has an end of it; the place is that node) and 17 (`out` is shorter
+/// than the choice).
 ///
 /// # Examples
 /// ```
+/// use keshmirun::Terms;
+///
 /// // the paper's small event, as in the example of `sheet`
 /// let table = [
 ///     0, 0x33, 1, 7, 5, //
@@ -183,37 +209,52 @@ pub const NO_NODE: u8 = 255;
 /// ];
 /// let marking = [0, 15, 1, 0, 2, 0, 0, 0, 7, 0, 0, 0, 9, 0, 0, 0, 1];
 /// let mut out = [0; 20];
-/// assert_eq!(keshmirun::pick(&table, &marking, &[1; 5], keshmirun::NO_NODE, &mut out), Ok(1));
+/// assert_eq!(keshmirun::pick(&table, &marking, Terms::new(&[1; 5]), keshmirun::NO_NODE, &mut out), Ok(1));
 /// assert_eq!(out[0], 0);
 ///
 /// // the action gets the value by its pin
-/// assert_eq!(keshmirun::pick(&table, &marking, &[1; 5], 5, &mut out), Ok(1));
+/// assert_eq!(keshmirun::pick(&table, &marking, Terms::new(&[1; 5]), 5, &mut out), Ok(1));
 /// assert_eq!(out[0], 1);
 ///
 /// // nothing ends at a decision
-/// let refusal = keshmirun::pick(&table, &marking, &[1; 5], 2, &mut out).unwrap_err();
+/// let refusal = keshmirun::pick(&table, &marking, Terms::new(&[1; 5]), 2, &mut out).unwrap_err();
 /// assert_eq!((refusal.number, refusal.place), (13, 2));
 /// ```
-pub fn pick(table: &[u8], marking: &[u8], guards: &[u8], node: u8, out: &mut [u8]) -> Result<usize, Refusal> {
+pub fn pick(table: &[u8], marking: &[u8], terms: Terms, node: u8, out: &mut [u8]) -> Result<usize, Refusal> {
+    let Terms { guards, bounds } = terms;
     // SAFETY: the archive reads and writes only the bytes behind the pointers, as many as their lengths say, and keeps nothing.
     let word = unsafe {
-        archive::pick(table.as_ptr(), table.len(), marking.as_ptr(), marking.len(), guards.as_ptr(), guards.len(), node, out.as_mut_ptr(), out.len())
+        archive::pick(
+            table.as_ptr(),
+            table.len(),
+            marking.as_ptr(),
+            marking.len(),
+            guards.as_ptr(),
+            guards.len(),
+            bounds.as_ptr(),
+            bounds.len(),
+            node,
+            out.as_mut_ptr(),
+            out.len(),
+        )
     };
     unpacked(word)
 }
 
 /// Writes the marking after a choice of ends is taken to the front of `out`, and returns its length.
 ///
-/// `choice` names ends by their numbers on the [`sheet`] of the same table, marking and guards, in rising order; it may be empty. What its ends were made from
+/// `choice` names ends by their numbers on the [`sheet`] of the same table, marking and terms, in rising order; it may be empty. What its ends were made from
 /// is spent, and then their targets gain in the order of ends. A refused call leaves `out` as it was.
 ///
 /// # Errors
-/// Refusals 1 to 8 as for [`sheet`], 9 (the choice is not strictly rising, or names no end), 10 (two of its ends compete; the place is the lowest that does),
-/// 11 (a fork is not passed whole; the lowest such fork), 12 (a destination doesn't agree; the lowest such node, an action for its pins) and 17 (`out` is
-/// shorter than the marking).
+/// Refusals 1 to 8 and 18 as for [`sheet`], 9 (the choice is not strictly rising, or names no end), 10 (two of its ends compete; the place is the lowest that
+/// does), 11 (a fork is not passed whole; the lowest such fork), 12 (a destination doesn't agree; the lowest such node, an action for its pins) and 17 (`out`
+/// is shorter than the marking).
 ///
 /// # Examples
 /// ```
+/// use keshmirun::Terms;
+///
 /// // the paper's small event, as in the example of `sheet`
 /// let table = [
 ///     0, 0x33, 1, 7, 5, //
@@ -222,15 +263,16 @@ pub fn pick(table: &[u8], marking: &[u8], guards: &[u8], node: u8, out: &mut [u8
 /// ];
 /// let marking = [0, 15, 1, 0, 2, 0, 0, 0, 7, 0, 0, 0, 9, 0, 0, 0, 1];
 /// let mut out = [0; 4096];
-/// let length = keshmirun::step(&table, &marking, &[1; 5], &[1], &mut out).unwrap();
+/// let length = keshmirun::step(&table, &marking, Terms::new(&[1; 5]), &[1], &mut out).unwrap();
 /// // 7 went to the pin and the initial node's token with it, so the action runs
 /// assert_eq!(out[..length], [0, 15, 1, 0, 1, 0, 0, 0, 9, 1, 0, 0, 0, 7, 1, 0, 0]);
 ///
 /// // both ends are made from the value 7
-/// let refusal = keshmirun::step(&table, &marking, &[1; 5], &[0, 1], &mut out).unwrap_err();
+/// let refusal = keshmirun::step(&table, &marking, Terms::new(&[1; 5]), &[0, 1], &mut out).unwrap_err();
 /// assert_eq!((refusal.number, refusal.place), (10, 0));
 /// ```
-pub fn step(table: &[u8], marking: &[u8], guards: &[u8], choice: &[u8], out: &mut [u8]) -> Result<usize, Refusal> {
+pub fn step(table: &[u8], marking: &[u8], terms: Terms, choice: &[u8], out: &mut [u8]) -> Result<usize, Refusal> {
+    let Terms { guards, bounds } = terms;
     // SAFETY: the archive reads and writes only the bytes behind the pointers, as many as their lengths say, and keeps nothing.
     let word = unsafe {
         archive::step(
@@ -240,6 +282,8 @@ pub fn step(table: &[u8], marking: &[u8], guards: &[u8], choice: &[u8], out: &mu
             marking.len(),
             guards.as_ptr(),
             guards.len(),
+            bounds.as_ptr(),
+            bounds.len(),
             choice.as_ptr(),
             choice.len(),
             out.as_mut_ptr(),

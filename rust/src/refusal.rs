@@ -11,7 +11,7 @@ use std::fmt;
 /// ```
 #[derive(Clone, Copy, Debug, PartialEq, Eq, Hash)]
 pub struct Refusal {
-    /// 1 to 17.
+    /// 1 to 18.
     pub number: u8,
     /// The node, edge or end that the number's row names; 0 where it names none.
     pub place: u8,
@@ -38,6 +38,7 @@ impl Refusal {
             15 => "the value list is cut, has a count over 16, or has bytes left",
             16 => "a stock would pass its upper, or an edge is at 255",
             17 => "the lent output is shorter than the reply",
+            18 => "the bounds list: its frame, an edge, their order, or low above high",
             _ => "no refusal of the paper",
         }
     }

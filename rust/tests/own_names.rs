@@ -1,5 +1,7 @@
 //! A program that has functions `check`, `start`, `step` .. of its own under their plain names, beside the crate's: each call reaches the one that is meant.
 
+use keshmirun::Terms;
+
 #[no_mangle]
 pub extern "C" fn check(value: u64) -> u64 {
     value + 1
@@ -39,9 +41,9 @@ fn each_has_its_own() {
     assert_eq!(keshmirun::start(&table, &[], &mut out), Ok(6));
     let marking = [0, 4, 1, 0, 0, 1];
     assert_eq!(out[..6], marking);
-    assert_eq!(keshmirun::sheet(&table, &marking, &[1], &mut out), Ok(13));
-    assert_eq!(keshmirun::pick(&table, &marking, &[1], 1, &mut out), Ok(1));
-    assert_eq!(keshmirun::step(&table, &marking, &[1], &[0], &mut out), Ok(6));
+    assert_eq!(keshmirun::sheet(&table, &marking, Terms::new(&[1]), &mut out), Ok(13));
+    assert_eq!(keshmirun::pick(&table, &marking, Terms::new(&[1]), 1, &mut out), Ok(1));
+    assert_eq!(keshmirun::step(&table, &marking, Terms::new(&[1]), &[0], &mut out), Ok(6));
     let running = [0, 4, 1, 0, 1, 0];
     assert_eq!(out[..6], running);
     assert_eq!(keshmirun::finish(&table, &running, 1, &[], &mut out), Ok(6));

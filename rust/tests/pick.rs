@@ -1,6 +1,6 @@
 //! `pick` against the plain reading of the paper and a second way (`common/second.rs`), with fixed seeds: with no node named, and for nodes of every kind and
-//! numbers that are none, at the points of whole random events, at markings from anywhere and near the sizes' limits, good and damaged inputs, room to
-//! spare, exact and one short.
+//! numbers that are none, at the points of whole random events, at markings from anywhere and near the sizes' limits, with bounds and without, good and
+//! damaged inputs, room to spare, exact and one short.
 //!
 //! The second way gives the answer; where the ends are few, so does the reading's judge on every set of ends, and elsewhere the reading's pick, where it is
 //! not too long.
@@ -10,6 +10,7 @@ mod common;
 use common::points::{varied, Walk, BUDGET};
 use common::second::Second;
 use common::{called, limits, room, within, Seen};
+use keshmirun::Terms;
 use reading::random::{Event, Parts, Rng};
 use reading::{Answer, Board, NO_NODE};
 
@@ -39,11 +40,11 @@ fn tally(seed: u64, calls: usize, mut next: impl FnMut(&mut Rng) -> Event) -> Ta
 
 impl Tally {
     fn compare(&mut self, rng: &mut Rng, event: &Event) {
-        match Board::within(&event.table, &event.marking, &event.guards, BUDGET) {
+        match Board::within(&event.table, &event.marking, &event.guards, &event.bounds, BUDGET) {
             Some(Ok(board)) => self.compare_at(rng, event, &board),
             Some(Err(refused)) => {
                 if refused == (Answer::Refused { number: 8, place: 0 }) {
-                    assert!(Second::of(&event.table, &event.marking, &event.guards).is_none(), "{event:02x?}");
+                    assert!(Second::of(&event.table, &event.marking, &event.guards, &event.bounds).is_none(), "{event:02x?}");
                 }
                 let node = rng.byte();
                 self.call(rng, event, node, refused);
@@ -54,7 +55,7 @@ impl Tally {
 
     fn compare_at(&mut self, rng: &mut Rng, event: &Event, board: &Board) {
         let parts = Parts::of(&event.table).unwrap();
-        let second = Second::of(&event.table, &event.marking, &event.guards).unwrap();
+        let second = Second::of(&event.table, &event.marking, &event.guards, &event.bounds).unwrap();
         let targets = second.targets();
         assert_eq!(targets.len(), board.ends(), "{event:02x?}");
         self.large += usize::from(targets.len() >= 12);
@@ -73,10 +74,11 @@ impl Tally {
         }
     }
 
-    fn call(&mut self, rng: &mut Rng, Event { table, marking, guards, .. }: &Event, node: u8, full: Answer) {
+    fn call(&mut self, rng: &mut Rng, Event { table, marking, guards, bounds, .. }: &Event, node: u8, full: Answer) {
+        self.seen.note_bounds(&full, |out| keshmirun::pick(table, marking, Terms::new(guards), node, out));
         let room = room(rng, &full);
-        let answer = called(rng.byte(), &[table, marking, guards, &[node]], room, &within(room, full), |lent, out| {
-            keshmirun::pick(lent[0].slice(), lent[1].slice(), lent[2].slice(), node, out)
+        let answer = called(rng.byte(), &[table, marking, guards, bounds, &[node]], room, &within(room, full), |lent, out| {
+            keshmirun::pick(lent[0].slice(), lent[1].slice(), Terms::new(lent[2].slice()).with_bounds(lent[3].slice()), node, out)
         });
         self.seen.note(answer);
     }
@@ -131,6 +133,8 @@ fn whole_events() {
     let mut walk = Walk::default();
     let tally = tally(41, 60_000, |rng| walk.next(rng));
     tally.seen.assert_each(100, &[0, 1, 2, 3, 4, 5, 6, 7, 8, 13, 17]);
+    tally.seen.assert_each(500, &[18]);
+    tally.seen.assert_bounded(1_000);
     tally.seen.assert_places(200, &[13]);
 }
 
@@ -138,12 +142,15 @@ fn whole_events() {
 fn from_anywhere() {
     let tally = tally(42, 30_000, Event::anywhere);
     tally.seen.assert_each(50, &[0, 1, 2, 3, 4, 5, 6, 7, 8, 13, 17]);
+    tally.seen.assert_each(300, &[18]);
+    tally.seen.assert_bounded(1_000);
     assert!(tally.large >= 50, "{tally:?}");
 }
 
 #[test]
 fn near_the_sizes() {
     let tally = tally(43, 10_000, limits::event);
-    tally.seen.assert_each(200, &[0, 8, 13, 17]);
+    tally.seen.assert_each(200, &[0, 8, 13, 17, 18]);
+    tally.seen.assert_bounded(1_000);
     assert!(tally.large >= 300, "{tally:?}");
 }

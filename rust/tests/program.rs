@@ -1,11 +1,12 @@
 //! The program `sheet`, run as the gate runs it, on inputs of every kind: good ones, none, short and cut ones, longer ones than it reads, and ones that
-//! each row refuses. It reads the first 8,192 bytes at most, and all that it prints is the paper's text of what the plain reading answers for their parts.
+//! each row refuses. It reads the first 8,192 bytes at most, and all that it prints is the paper's text of what the plain reading answers for their parts,
+//! without bounds.
 
 mod common;
 
 use common::points::{varied, Walk, BUDGET};
 use reading::random::{Event, Rng};
-use reading::{pick_within, sheet_within, Answer, NO_NODE};
+use reading::{pick_within, sheet_within, Answer, NO_BOUNDS, NO_NODE};
 use std::collections::BTreeMap;
 use std::fs::{read, read_to_string, remove_file, write, File};
 use std::io::{Seek, Write};
@@ -97,11 +98,11 @@ fn lines(table: &[u8], ends: u8, mut sheet: &[u8]) -> String {
 fn expected(input: &[u8]) -> Option<(String, u8)> {
     let (table, rest) = parted(&input[..input.len().min(MOST_INPUT)]);
     let (marking, guards) = parted(rest);
-    let sheet = match sheet_within(table, marking, guards, usize::MAX, BUDGET)? {
+    let sheet = match sheet_within(table, marking, guards, &NO_BOUNDS, usize::MAX, BUDGET)? {
         Answer::Good(sheet) => sheet,
         Answer::Refused { number, place } => return Some((format!("refused {number} {place}\n"), number)),
     };
-    let choice = match pick_within(table, marking, guards, NO_NODE, usize::MAX, BUDGET)? {
+    let choice = match pick_within(table, marking, guards, &NO_BOUNDS, NO_NODE, usize::MAX, BUDGET)? {
         Answer::Good(choice) => choice,
         refused => panic!("a pick with no node named: {refused:?}"),
     };

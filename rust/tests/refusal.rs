@@ -4,11 +4,11 @@ use keshmirun::Refusal;
 use std::collections::BTreeSet;
 
 #[test]
-fn seventeen_meanings() {
-    let meanings: BTreeSet<&str> = (0..=17).map(|number| Refusal { number, place: 0 }.meaning()).collect();
-    assert_eq!(meanings.len(), 18, "{meanings:?}");
+fn eighteen_meanings() {
+    let meanings: BTreeSet<&str> = (0..=18).map(|number| Refusal { number, place: 0 }.meaning()).collect();
+    assert_eq!(meanings.len(), 19, "{meanings:?}");
     let none = Refusal { number: 0, place: 0 }.meaning();
-    assert!((18..=255).all(|number| Refusal { number, place: 0 }.meaning() == none));
+    assert!((19..=255).all(|number| Refusal { number, place: 0 }.meaning() == none));
 }
 
 #[test]

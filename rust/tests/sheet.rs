@@ -1,11 +1,11 @@
-//! `sheet` against the plain reading of the paper, with fixed seeds: whole random events, markings from anywhere, tables at the sizes' limits, good and
-//! damaged inputs, room to spare, exact and one short.
+//! `sheet` against the plain reading of the paper, with fixed seeds: whole random events, markings from anywhere, tables at the sizes' limits, with bounds
+//! and without, good and damaged inputs, room to spare, exact and one short.
 
 mod common;
 
 use common::points::{varied, Walk, BUDGET};
 use common::{called, limits, room, within, Seen};
-use keshmirun::Refusal;
+use keshmirun::{Refusal, Terms};
 use reading::random::{Event, Parts, Rng};
 
 /// So many calls, four at each point.
@@ -22,14 +22,15 @@ fn seen(seed: u64, calls: usize, mut next: impl FnMut(&mut Rng) -> Event) -> See
     seen
 }
 
-fn compare(rng: &mut Rng, seen: &mut Seen, Event { table, marking, guards, .. }: &Event) {
-    let full = match reading::sheet_within(table, marking, guards, usize::MAX, BUDGET) {
+fn compare(rng: &mut Rng, seen: &mut Seen, Event { table, marking, guards, bounds, .. }: &Event) {
+    let full = match reading::sheet_within(table, marking, guards, bounds, usize::MAX, BUDGET) {
         Some(full) => full,
         None => return seen.skip(),
     };
+    seen.note_bounds(&full, |out| keshmirun::sheet(table, marking, Terms::new(guards), out));
     let room = room(rng, &full);
-    let answer = called(rng.byte(), &[table, marking, guards], room, &within(room, full), |lent, out| {
-        keshmirun::sheet(lent[0].slice(), lent[1].slice(), lent[2].slice(), out)
+    let answer = called(rng.byte(), &[table, marking, guards, bounds], room, &within(room, full), |lent, out| {
+        keshmirun::sheet(lent[0].slice(), lent[1].slice(), Terms::new(lent[2].slice()).with_bounds(lent[3].slice()), out)
     });
     seen.note(answer);
 }
@@ -37,17 +38,25 @@ fn compare(rng: &mut Rng, seen: &mut Seen, Event { table, marking, guards, .. }:
 #[test]
 fn whole_events() {
     let mut walk = Walk::default();
-    seen(21, 50_000, |rng| walk.next(rng)).assert_each(100, &[0, 1, 2, 3, 4, 5, 6, 7, 8, 17]);
+    let seen = seen(21, 50_000, |rng| walk.next(rng));
+    seen.assert_each(100, &[0, 1, 2, 3, 4, 5, 6, 7, 8, 17]);
+    seen.assert_each(2_000, &[18]);
+    seen.assert_bounded(3_000);
 }
 
 #[test]
 fn from_anywhere() {
-    seen(22, 35_000, Event::anywhere).assert_each(100, &[0, 1, 2, 3, 4, 5, 6, 7, 8, 17]);
+    let seen = seen(22, 35_000, Event::anywhere);
+    seen.assert_each(100, &[0, 1, 2, 3, 4, 5, 6, 7, 8, 17]);
+    seen.assert_each(1_000, &[18]);
+    seen.assert_bounded(3_000);
 }
 
 #[test]
 fn near_the_sizes() {
-    seen(23, 15_000, limits::event).assert_each(1_000, &[0, 8, 17]);
+    let seen = seen(23, 15_000, limits::event);
+    seen.assert_each(1_000, &[0, 8, 17, 18]);
+    seen.assert_bounded(1_000);
 }
 
 #[test]
@@ -63,8 +72,8 @@ fn sizes_met_and_passed_by_one() {
     }
 }
 
-/// The sheet with every source full and every guard 1.
+/// The sheet with every source full, every guard 1 and no bounds.
 fn first_sheet(rng: &mut Rng, parts: &Parts) -> Result<usize, Refusal> {
     let marking = limits::full(rng, parts);
-    keshmirun::sheet(&parts.write(), &marking, &vec![1; parts.edges.len()], &mut [0; 4096])
+    keshmirun::sheet(&parts.write(), &marking, Terms::new(&vec![1; parts.edges.len()]), &mut [0; 4096])
 }

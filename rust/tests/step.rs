@@ -1,10 +1,11 @@
 //! `step` against the plain reading of the paper, with fixed seeds: right and wrong choices at the points of whole random events, at markings from anywhere and
-//! near the sizes' limits, good and damaged inputs, room to spare, exact and one short. Each refusal is held to its place.
+//! near the sizes' limits, with bounds and without, good and damaged inputs, room to spare, exact and one short. Each refusal is held to its place.
 
 mod common;
 
 use common::points::{varied, Walk, BUDGET};
 use common::{called, limits, room, within, Seen};
+use keshmirun::Terms;
 use reading::random::{choice, Event, Rng};
 use reading::{Answer, Board, NO_NODE};
 
@@ -24,7 +25,7 @@ fn seen(seed: u64, calls: usize, mut next: impl FnMut(&mut Rng) -> Event) -> See
 }
 
 fn compare(rng: &mut Rng, seen: &mut Seen, event: &Event) {
-    match Board::within(&event.table, &event.marking, &event.guards, BUDGET) {
+    match Board::within(&event.table, &event.marking, &event.guards, &event.bounds, BUDGET) {
         Some(Ok(board)) => {
             for choice in choices(rng, &board) {
                 call(rng, seen, event, &choice, board.step(&choice, usize::MAX));
@@ -39,10 +40,11 @@ fn compare(rng: &mut Rng, seen: &mut Seen, event: &Event) {
     }
 }
 
-fn call(rng: &mut Rng, seen: &mut Seen, Event { table, marking, guards, .. }: &Event, choice: &[u8], full: Answer) {
+fn call(rng: &mut Rng, seen: &mut Seen, Event { table, marking, guards, bounds, .. }: &Event, choice: &[u8], full: Answer) {
+    seen.note_bounds(&full, |out| keshmirun::step(table, marking, Terms::new(guards), choice, out));
     let room = room(rng, &full);
-    let answer = called(rng.byte(), &[table, marking, guards, choice], room, &within(room, full), |lent, out| {
-        keshmirun::step(lent[0].slice(), lent[1].slice(), lent[2].slice(), lent[3].slice(), out)
+    let answer = called(rng.byte(), &[table, marking, guards, bounds, choice], room, &within(room, full), |lent, out| {
+        keshmirun::step(lent[0].slice(), lent[1].slice(), Terms::new(lent[2].slice()).with_bounds(lent[3].slice()), lent[4].slice(), out)
     });
     seen.note(answer);
 }
@@ -72,7 +74,9 @@ fn whole_events() {
     let mut walk = Walk::default();
     let seen = seen(31, 120_000, |rng| walk.next(rng));
     seen.assert_each(100, &[0, 1, 2, 3, 4, 5, 6, 7, 8, 17]);
+    seen.assert_each(500, &[18]);
     seen.assert_each(2_000, &[9, 10, 11, 12]);
+    seen.assert_bounded(2_000);
     seen.assert_places(12, &[10, 11, 12]);
 }
 
@@ -80,13 +84,17 @@ fn whole_events() {
 fn from_anywhere() {
     let seen = seen(32, 60_000, Event::anywhere);
     seen.assert_each(50, &[0, 1, 2, 3, 4, 5, 6, 7, 8, 17]);
+    seen.assert_each(200, &[18]);
     seen.assert_each(1_000, &[9, 10, 11, 12]);
+    seen.assert_bounded(2_000);
     seen.assert_places(12, &[10, 11, 12]);
 }
 
 #[test]
 fn near_the_sizes() {
-    let seen = seen(33, 20_000, limits::event);
+    let seen = seen(33, 24_000, limits::event);
     seen.assert_each(300, &[0, 8, 9, 10, 11, 17]);
+    seen.assert_each(100, &[18]);
+    seen.assert_bounded(1_000);
     seen.assert_places(12, &[10, 11]);
 }

@@ -2,22 +2,23 @@
 
 mod common;
 
-use common::called;
 use common::vectors::{all, Call, Operation};
+use keshmirun::Refusal;
 use std::collections::BTreeMap;
 
 #[test]
 fn every_call() {
     let mut made: BTreeMap<Operation, usize> = BTreeMap::new();
+    let mut bounds_refused = 0;
     for (number, (Call { operation, room, node, slices }, answer)) in all().iter().enumerate() {
         if let Some(expected) = answer {
-            let inputs: Vec<&[u8]> = slices.iter().map(|slice| &slice[..]).collect();
-            let _ = called(number as u8, &inputs, *room, expected, |lent, out| {
-                operation.make(*node, [lent[0].slice(), lent[1].slice(), lent[2].slice(), lent[3].slice()], out)
-            });
+            let [table, marking, given, bounds, choice] = slices;
+            let answer = operation.hold(number as u8, *node, [table, marking, given, bounds, choice], *room, expected);
             *made.entry(*operation).or_default() += 1;
+            bounds_refused += usize::from(answer == Err(Refusal { number: 18, place: 0 }));
         }
     }
     assert_eq!(made.len(), 6, "{made:?}");
-    assert!(made.values().sum::<usize>() >= 3_000, "{made:?}");
+    assert!(made.values().sum::<usize>() >= 5_000, "{made:?}");
+    assert!(bounds_refused >= 20, "{bounds_refused}");
 }

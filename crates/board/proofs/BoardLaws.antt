@@ -10,7 +10,7 @@ use Rattle.paper.specs.Limits.{limits}
 use Rattle.paper.specs.Answers.{refused}
 use Rattle.paper.specs.Table.{edges, upper}
 use Rattle.paper.specs.Marking.{Marking}
-use Rattle.paper.specs.Offers.{Offer, lastEdge, elem, goesOver, offers}
+use Rattle.paper.specs.Offers.{Offer, lastEdge, elem, Terms, goesOver, offers}
 use Rattle.paper.specs.Choices.{board}
 use Rattle.paper.proofs.Boards.{board-good}
 use Rattle.paper.proofs.OneMarking.{read-room}
@@ -28,24 +28,24 @@ use Rattle.holding.specs.declared.Held.{Held}
 use Rattle.board.specs.Reading.{Seats, Laid, BoardRead}
 
 -- ---- rows 1 to 8
-pub board-refused : (t b g : List ℕ) (n p : ℕ) → tableRead t ≡ refused n p → board t b g ≡ refused n p
+pub board-refused : (t b : List ℕ) (w : Terms) (n p : ℕ) → tableRead t ≡ refused n p → board t b w ≡ refused n p
 unfolding board
-board-refused t b g n p e = rw (read-refused t n p e)
+board-refused t b w n p e = rw (read-refused t n p e)
 
-module _ (t b g : List ℕ) (o : Offers) (x : Held) (s : Seats) (r : EndsAnswer) (h : BoardRead t b g o x s r) where
-  pub read-refusal : (n p : ℕ) → r ≡ Refused n p → board t b g ≡ refused n p
+module _ (t b : List ℕ) (w : Terms) (o : Offers) (x : Held) (s : Seats) (r : EndsAnswer) (h : BoardRead t b w o x s r) where
+  pub read-refusal : (n p : ℕ) → r ≡ Refused n p → board t b w ≡ refused n p
   read-refusal n p e = rw e at h
 
-  pub read-laid : (n : ℕ) → r ≡ Good n → Laid t b g o x s n
+  pub read-laid : (n : ℕ) → r ≡ Good n → Laid t b w o x s n
   read-laid n e = rw e at h
 
 -- ---- a board
-offer-edge : (t g : List ℕ) (m : Marking) (x : Offer) → elem x (offers t (goesOver g) m) ≡ true → lastEdge x < edges t
-offer-edge t g m x k =
-    let r = in-offers t (goesOver g) m (elem-in (offers t (goesOver g) m) k) in
-    omega (arith, r .1, on-last t (goesOver g) m (limits .longestPath) (r .0) (r .2))
+offer-edge : (t : List ℕ) (w : Terms) (m : Marking) (x : Offer) → elem x (offers t (goesOver w) m) ≡ true → lastEdge x < edges t
+offer-edge t w m x k =
+    let r = in-offers t (goesOver w) m (elem-in (offers t (goesOver w) m) k) in
+    omega (arith, r .1, on-last t (goesOver w) m (limits .longestPath) (r .0) (r .2))
 
-module _ {t b g : List ℕ} {o : Offers} {x : Held} {s : Seats} {n : ℕ} (l : Laid t b g o x s n) where
+module _ {t b : List ℕ} {w : Terms} {o : Offers} {x : Held} {s : Seats} {n : ℕ} (l : Laid t b w o x s n) where
   -- an end's last edge is one of the table's
   pub laid-edges : (k : ℕ) → k < n → at (o .last) (at (s .ends) k) < edges t
   laid-edges k h =
@@ -53,15 +53,15 @@ module _ {t b g : List ℕ} {o : Offers} {x : Held} {s : Seats} {n : ℕ} (l : L
       let y = nth (l .trees) i in
       let r = l .seated .holds-ts .rows i (l .seated .inside k h) in
       let e : elem y (l .on .allOffers) ≡ true = sym (l .seated .offers-are y) ∙ in-elem (member (l .trees) i (l .seated .inside k h)) in
-      let f = offer-edge t g (l .on .current) y (rw (board-good t b g (l .on) (l .is-board) .facts .is-offers) at e) in
+      let f = offer-edge t w (l .on .current) y (rw (board-good t b w (l .on) (l .is-board) .facts .is-offers) at e) in
       omega (arith, r .last-is)
 
   pub laid-told : Told t (l .on .current) (x .runs) (x .kept)
   laid-told = record {
-    table-fine = board-good t b g (l .on) (l .is-board) .table-fine;
+    table-fine = board-good t b w (l .on) (l .is-board) .table-fine;
     running = l .holding .nodes-held .running;
     stocks = λ k m a. l .holding .nodes-held .stocks k m a .many;
   }
 
   pub stocks-fit : (k : ℕ) → length (l .on .current .stock k) ≤ upper t k
-  stocks-fit = read-room t b (l .on .current) (board-good t b g (l .on) (l .is-board) .is-read)
+  stocks-fit = read-room t b (l .on .current) (board-good t b w (l .on) (l .is-board) .is-read)

@@ -1,27 +1,31 @@
 -- Rows 5 to 8 of a good table, row by row: what the readers' answers make of the board. Assumes nothing.
 use Prim.Native.Nat.{ℕ, _≤_, _<_}
-use mathlib.Core.Path.{_≡_, refl, ap, _∙_}
-use mathlib.Core.Bool.{Bool, true, false}
+use mathlib.Core.Path.{_≡_, refl, sym, ap, _∙_}
+use mathlib.Core.Bool.{Bool, true, false, not}
 use mathlib.Core.List.{List}
 use lib.ListN.{length}
 use borrow.Author.Tests.{le-leb, lt-leb}
 use Rattle.paper.specs.Lists.{below, gather}
 use Rattle.paper.specs.Limits.{limits}
-use Rattle.paper.specs.Answers.{refused, good, _>>=_, need}
+use Rattle.paper.specs.Answers.{Answer, refused, good, _>>=_, need}
 use Rattle.paper.specs.Table.{edges}
 use Rattle.paper.specs.Marking.{Marking, marking, Good as GoodMarking}
-use Rattle.paper.specs.Offers.{Offer, elem, goesOver, guardsFine, offers, ends, sizesFine}
+use Rattle.paper.specs.Offers.{Offer, elem, Terms, terms, goesOver, guardsFine, boundsFine, offers, ends, sizesFine}
 use Rattle.paper.specs.Choices.{Board, board, boardOf}
 use Rattle.paper.proofs.Bools.{and-both, and-never, iff}
 use Rattle.paper.proofs.Members.{in-gather, gather-in, in-below, below-in}
 use Rattle.paper.proofs.Sameness.{elem-in, in-elem}
+use Rattle.paper.proofs.Values.{joined-passes}
 use Rattle.table.specs.declared.Table.{Table}
 use Rattle.table.specs.Reading.{tableRead}
 use Rattle.table.proofs.Reading.{read-fine, read-good}
 use Rattle.marking.specs.declared.reading.MarkingAnswer.{MarkingAnswer}
 use Rattle.marking.specs.declared.reading.MarkingAnswer.the-variants.{Ended, Refused as NoMarking}
 use Rattle.rows.specs.Rows.{Rows, fine}
-use Rattle.flow.specs.Stages.{Input, Whole, onEdge}
+use Rattle.terms.specs.Terms.{termsFine, Ties}
+use Rattle.terms.proofs.TermLaws.{terms-fine}
+use Rattle.terms.proofs.GuardLaws.{guards-long}
+use Rattle.flow.specs.Stages.{Gates, Input, Whole, onEdge}
 use Rattle.rows.specs.Struct.{rowsOf, Full}
 use Rattle.flow.proofs.Inputs.{good-flat}
 use Rattle.holding.specs.Holding.{HeldRead}
@@ -37,71 +41,90 @@ use Rattle.board.specs.Reading.{Seats, Laid, BoardRead}
 use Rattle.board.proofs.StartLaws.{starts-are}
 
 -- ---- the ladder
-module _ (t b g : List ℕ) {x : Table} (e : tableRead t ≡ good x) where
+module _ (t b g x : List ℕ) {k : Table} (e : tableRead t ≡ good k) where
+  abbrev w : Terms
+  w = terms g x
+
   module _ (from kept runs tokens : List ℕ) (r : MarkingAnswer) (h : HeldRead t b from kept runs tokens (marking t b) r) where
-    pub board-5 : (n p : ℕ) → r ≡ NoMarking n p → board t b g ≡ refused n p
+    pub board-5 : (n p : ℕ) → r ≡ NoMarking n p → board t b w ≡ refused n p
     unfolding board
     board-5 n p q = let z = refused-read t b from kept runs tokens r h n p q in rw (read-fine t e, z .0, z .1, z .2)
 
-    pub board-6 : r ≡ Ended → board t b g ≡ refused 6 0
+    pub board-6 : r ≡ Ended → board t b w ≡ refused 6 0
     unfolding board boardOf
     board-6 q = let z = ended-read t b from kept runs tokens r h q in rw (read-fine t e, z .1, z .2)
 
   module _ {y : Held} (l : LiveHeld t b y) where
-    pub board-7 : guardsFine t g ≡ false → board t b g ≡ refused 7 0
-    unfolding board boardOf
-    board-7 n = rw (read-fine t e, l .is-read, l .live, n)
+    abbrev os : List Offer
+    os = offers t (goesOver w) (l .current)
 
-    module _ (f : guardsFine t g ≡ true) where
-      abbrev os : List Offer
-      os = offers t (goesOver g) (l .current)
+    abbrev theBoard : Board
+    theBoard = record { table = t; current = l .current; allOffers = os; allEnds = ends t os }
 
-      abbrev theBoard : Board
-      theBoard = record { table = t; current = l .current; allOffers = os; allEnds = ends t os }
+    -- the guards, the bounds and the last row are left
+    rest : Answer (Unit {0}) → Answer Board
+    rest a = a >>= (λ u. need 8 (sizesFine t os) >>= (λ u. good theBoard))
 
+    -- as boardOf has them, whether the guards are fine or not
+    from-guards : Bool → Answer Board
+    from-guards c = need 7 c >>= (λ u. need 18 (boundsFine t x) >>= (λ u. need 8 (sizesFine t os) >>= (λ u. good theBoard)))
+
+    last-rows : board t b w ≡ rest (termsFine t g x)
+    unfolding board boardOf termsFine rest from-guards
+    last-rows = rw (read-fine t e, l .is-read) (ap (λ (c : Bool). need 6 (not c) >>= (λ u. from-guards (guardsFine t g))) (l .live) ∙ by (guardsFine t g))
+      where
+        by : (c : Bool) → from-guards c ≡ rest (need 7 c >>= (λ u. need 18 (boundsFine t x)))
+        by true = refl
+        by false = refl
+
+    pub board-terms : (n p : ℕ) → refused n p ≡ termsFine t g x → board t b w ≡ refused n p
+    unfolding rest
+    board-terms n p q = last-rows ∙ ap rest (sym q)
+
+    module _ (f : termsFine t g x ≡ good tt) where
       -- the last row is left
-      last-row : board t b g ≡ (need 8 (sizesFine t os) >>= (λ u. good theBoard))
-      unfolding board boardOf
-      last-row = rw (read-fine t e, l .is-read, l .live, f)
+      last-row : board t b w ≡ (need 8 (sizesFine t os) >>= (λ u. good theBoard))
+      unfolding rest
+      last-row = last-rows ∙ ap rest f
 
-      not-fine : sizesFine t os ≡ false → board t b g ≡ refused 8 0
+      not-fine : sizesFine t os ≡ false → board t b w ≡ refused 8 0
       not-fine n = last-row ∙ ap (λ (s : Bool). need 8 s >>= (λ u. good theBoard)) n
 
       -- too many offers or paths
-      pub board-8 : fine os ≡ false → board t b g ≡ refused 8 0
+      pub board-8 : fine os ≡ false → board t b w ≡ refused 8 0
       unfolding sizesFine fine
       board-8 n = not-fine (rw n)
 
       -- too many ends
-      pub board-8-ends : limits .mostEnds < length (ends t os) → board t b g ≡ refused 8 0
+      pub board-8-ends : limits .mostEnds < length (ends t os) → board t b w ≡ refused 8 0
       unfolding sizesFine fine
       board-8-ends n = not-fine (rw (lt-leb (length (ends t os)) (limits .mostEnds) n) (and-never (fine os)))
 
-      board-is : fine os ≡ true → length (ends t os) ≤ limits .mostEnds → board t b g ≡ good theBoard
+      board-is : fine os ≡ true → length (ends t os) ≤ limits .mostEnds → board t b w ≡ good theBoard
       unfolding sizesFine fine
       board-is n m = last-row ∙ ap (λ (s : Bool). need 8 s >>= (λ u. good theBoard)) (and-both _ _ n (le-leb (length (ends t os)) (limits .mostEnds) m))
 
       -- the trees of the rows are the offers, edge by edge in another order
-      same-offers : (r : Rows) (a c : List ℕ) (w : Whole t (l .current) g r a c) (o : Offer)
-          → elem o (gather (onEdge t g (l .current)) (w .order)) ≡ elem o os
+      same-offers : (r : Rows) (a c : List ℕ) (z : Whole t (l .current) (goesOver w) r a c) (o : Offer)
+          → elem o (gather (onEdge t (goesOver w) (l .current)) (z .order)) ≡ elem o os
       unfolding offers
-      same-offers r a c w o =
+      same-offers r a c z o =
           iff _ _
-          (λ h. let k = in-gather (onEdge t g (l .current)) (w .order) (elem-in _ h) in in-elem (gather-in (onEdge t g (l .current)) (below-in (edges t) (w .only-edges (k .0) (k .1))) (k .2)))
-          (λ h. let k = in-gather (onEdge t g (l .current)) (below (edges t)) (elem-in _ h) in in-elem (gather-in (onEdge t g (l .current)) (w .all-edges (k .0) (in-below (edges t) (k .1))) (k .2)))
+          (λ h. let k = in-gather (onEdge t (goesOver w) (l .current)) (z .order) (elem-in _ h) in in-elem (gather-in (onEdge t (goesOver w) (l .current)) (below-in (edges t) (z .only-edges (k .0) (k .1))) (k .2)))
+          (λ h. let k = in-gather (onEdge t (goesOver w) (l .current)) (below (edges t)) (elem-in _ h) in in-elem (gather-in (onEdge t (goesOver w) (l .current)) (z .all-edges (k .0) (in-below (edges t) (k .1))) (k .2)))
 
-      pub board-laid : (o : Offers) (links : List ℕ) → Full o → (z : Seats) (n : ℕ) (a c : List ℕ) (w : Whole t (l .current) g (rowsOf o links) a c)
-          → Listed (gather (onEdge t g (l .current)) (w .order)) (ends t os) (z .ends) (z .order) (z .lens) (z .cells) n → Laid t b g o y z n
-      board-laid o links full z n a c w s = record {
+      pub board-laid : (o : Offers) (links : List ℕ) → Full o → (z : Seats) (n : ℕ) (a c : List ℕ) (h : Whole t (l .current) (goesOver w) (rowsOf o links) a c)
+          → Listed (gather (onEdge t (goesOver w) (l .current)) (h .order)) (ends t os) (z .ends) (z .order) (z .lens) (z .cells) n → Laid t b w o y z n
+      board-laid o links full z n a c h s = record {
         on = theBoard;
-        trees = gather (onEdge t g (l .current)) (w .order);
-        is-board = board-is (w .sizes) (rw (s .number) at (s .few));
+        trees = gather (onEdge t (goesOver w) (l .current)) (h .order);
+        is-board = board-is (h .sizes) (rw (s .number) at (s .few));
         full = full;
         links = links;
         seated = record {
           table-is = refl;
-          holds-ts = w .holds-ts;
-          offers-are = same-offers (rowsOf o links) a c w;
+          holds-ts = h .holds-ts;
+          offers-are = same-offers (rowsOf o links) a c h;
           number = s .number;
           few = s .few;
           inside = s .inside;
@@ -112,19 +135,29 @@ module _ (t b g : List ℕ) {x : Table} (e : tableRead t ≡ good x) where
       }
 
       -- the ends' answer is the board's
-      pub board-read : (o : Offers) (links : List ℕ) → Full o → (z : Seats) (r : EndsAnswer) (a c : List ℕ) (w : Whole t (l .current) g (rowsOf o links) a c)
-          → Arranged r (gather (onEdge t g (l .current)) (w .order)) (ends t os) (z .ends) (z .order) (z .lens) (z .cells) → BoardRead t b g o y z r
-      board-read o links full z (Good n) a c w h = board-laid o links full z n a c w h
-      board-read o links full z (Refused n p) a c w h = rw (h .0, h .1 .0) (board-8-ends (h .1 .1))
+      pub board-read : (o : Offers) (links : List ℕ) → Full o → (z : Seats) (r : EndsAnswer) (a c : List ℕ) (h : Whole t (l .current) (goesOver w) (rowsOf o links) a c)
+          → Arranged r (gather (onEdge t (goesOver w) (l .current)) (h .order)) (ends t os) (z .ends) (z .order) (z .lens) (z .cells) → BoardRead t b w o y z r
+      board-read o links full z (Good n) a c h s = board-laid o links full z n a c h s
+      board-read o links full z (Refused n p) a c h s = rw (s .0, s .1 .0) (board-8-ends (s .1 .1))
 
 -- a refusal is the board's
-pub refused-board : (t b g : List ℕ) (o : Offers) (y : Held) (z : Seats) (r : EndsAnswer) (n p : ℕ) → r ≡ Refused n p → board t b g ≡ refused n p → BoardRead t b g o y z r
-refused-board t b g o y z r n p e h = rw e h
+pub refused-board : (t b : List ℕ) (w : Terms) (o : Offers) (y : Held) (z : Seats) (r : EndsAnswer) (n p : ℕ) → r ≡ Refused n p → board t b w ≡ refused n p → BoardRead t b w o y z r
+refused-board t b w o y z r n p e h = rw e h
 
--- ---- first offers, for the builder
+-- ---- what the builder is handed
 pub begun-input : (t b : List ℕ) {x : Table} → tableRead t ≡ good x → (y : Held) (codes values : List ℕ) (m : Marking) → GoodMarking t m → Holding t b m y
-    → Begun t b (y .from) (y .kept) (y .tokens) codes values (edges t) → Input t m codes values
-begun-input t b e y codes values m ok h g = record {
+    → Begun t b (y .from) (y .kept) (y .tokens) codes values (edges t) → (goes : Gates) (g z : List ℕ) → Ties t g z goes → Input t m goes g z codes values
+begun-input t b e y codes values m ok h f goes g z ties = record {
+  ties = ties;
+  apart = λ j l d free. joined-passes t goes m (read-fine t e) (limits .longestPath) j l d (goes j) free;
   flat = good-flat t e;
-  starts = λ j l c. starts-are t b (y .from) (y .kept) (y .tokens) codes values (y .runs) m ok (h .nodes-held) (h .edges-held) g j l (read-good t e .edge j l .source-fits);
+  starts = λ j l c. starts-are t b (y .from) (y .kept) (y .tokens) codes values (y .runs) m ok (h .nodes-held) (h .edges-held) f j l (read-good t e .edge j l .source-fits);
 }
+
+-- fine guards and a fine list stand for what goes over the edges, and there is a guard for each
+module _ (t g x : List ℕ) (f : termsFine t g x ≡ good tt) where
+  pub fine-ties : Ties t g x (goesOver (terms g x))
+  fine-ties = record { fine = terms-fine t g x f .1; goes-are = λ e v. refl }
+
+  pub fine-long : edges t ≤ length g
+  fine-long = guards-long t g (terms-fine t g x f .0)

@@ -13,7 +13,7 @@ use Rattle.paper.specs.Marking.{Marking, Good, counted}
 use Rattle.paper.specs.Offers.{firsts}
 use Rattle.paper.proofs.Bytes.{four-back}
 use Rattle.paper.proofs.Lengths.{drop-four}
-use Rattle.paper.proofs.Cursor.{wordAt}
+use Rattle.paper.specs.Bytes.{wordAt}
 use Rattle.marking.specs.Values.{ValuesNoted}
 use Rattle.holding.specs.Holding.{NodesHeld, EdgesHeld}
 use Rattle.holding.proofs.HoldingLaws.{set-more}

@@ -5,7 +5,7 @@ use mathlib.Core.Path.{_≡_}
 use mathlib.Core.List.{List}
 use lib.ListN.{length}
 use Rattle.paper.specs.Answers.{refused, good}
-use Rattle.paper.specs.Offers.{Offer}
+use Rattle.paper.specs.Offers.{Offer, Terms}
 use Rattle.paper.specs.Choices.{board, Board}
 use Rattle.rows.specs.declared.Offers.{Offers}
 use Rattle.rows.specs.Struct.{rowsOf, Full}
@@ -34,10 +34,10 @@ pub record SeatsRoom (s : Seats) : Type 0 where
   pub cells-room : 2560 ≤ length (s .cells)
 
 -- the board of n ends; its offers are the rows of o and the links that their paths go on from
-pub record Laid (t b g : List ℕ) (o : Offers) (x : Held) (s : Seats) (n : ℕ) : Type 0 where
+pub record Laid (t b : List ℕ) (w : Terms) (o : Offers) (x : Held) (s : Seats) (n : ℕ) : Type 0 where
   pub on : Board
   pub trees : List Offer
-  pub is-board : board t b g ≡ good on
+  pub is-board : board t b w ≡ good on
   pub full : Full o
   pub links : List ℕ
   pub seated : Seated t on (rowsOf o links) trees (s .ends) n
@@ -45,6 +45,6 @@ pub record Laid (t b g : List ℕ) (o : Offers) (x : Held) (s : Seats) (n : ℕ)
   pub holding : Holding t b (on .current) x
 
 -- rows 5 to 8 of a good table, and the board
-abbrev pub BoardRead : List ℕ → List ℕ → List ℕ → Offers → Held → Seats → EndsAnswer → Type 0
-BoardRead t b g o x s (Good n) = Laid t b g o x s n
-BoardRead t b g o x s (Refused k p) = board t b g ≡ refused k p
+abbrev pub BoardRead : List ℕ → List ℕ → Terms → Offers → Held → Seats → EndsAnswer → Type 0
+BoardRead t b w o x s (Good n) = Laid t b w o x s n
+BoardRead t b w o x s (Refused k p) = board t b w ≡ refused k p

@@ -8,7 +8,7 @@ use lib.ListN.{length}
 use Rattle.paper.specs.Lists.{at}
 use Rattle.paper.specs.Table.{kind, source, isObjectNode}
 use Rattle.paper.specs.Marking.{counted}
-use Rattle.paper.proofs.Cursor.{wordAt}
+use Rattle.paper.specs.Bytes.{wordAt}
 
 -- what edge e carries first: 0 nothing, 1 a token, 2 the oldest value of its source
 unfoldable pub startCode : List ℕ → List ℕ → List ℕ → ℕ → ℕ

@@ -1,4 +1,4 @@
-// Rows 5 to 8: a marking and guards read, the offers built and the ends put in order.
+// Rows 5 to 8: a marking, guards and bounds read, the offers built and the ends put in order.
 // Functions that read a table's fields require that its bytes were read as a table.
 mod reading;
 mod starts;

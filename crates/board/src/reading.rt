@@ -1,25 +1,27 @@
-// Rows 5 to 8: the board of a marking and guards, in lent slices but for the offers.
+// Rows 5 to 8: the board of a marking, guards and bounds, in lent slices but for the offers.
 use super::starts::first_offers;
 use ends::EndsAnswer;
 use flow::Built;
-use guards::GuardsAnswer;
 use marking::MarkingAnswer;
 use rows::Offers;
 use table::Table;
+use terms::TermsAnswer;
 ghost use mathlib.Core.Path.{_≡_};
-ghost use mathlib.Core.Bool.{true};
+ghost use mathlib.Core.Bool.{Bool};
 ghost use mathlib.Core.List.{List};
+ghost use mathlib.Core.Option.{Option};
 ghost use Prim.Native.Nat.{ℕ, _≤_};
 ghost use lib.ListN.{length};
 ghost use Rattle.paper.specs.Answers.{good};
 ghost use Rattle.paper.specs.Table.{nodes, edges};
 ghost use Rattle.paper.specs.Marking.{Marking, Good};
 ghost use Rattle.paper.specs.Lists.{gather};
-ghost use Rattle.paper.specs.Offers.{guardsFine, goesOver, offers as offersOf, ends as endsOf};
+ghost use Rattle.paper.specs.Offers.{terms, offers as offersOf, ends as endsOf};
 ghost use Rattle.ends.specs.Ends.{Arranged};
 ghost use Rattle.table.specs.Reading.{tableRead};
 ghost use Rattle.ends.specs.declared.EndsAnswer.the-variants.{Refused};
 ghost use Rattle.rows.specs.Rows.{Ranges};
+ghost use Rattle.terms.specs.Terms.{termsFine, Ties};
 ghost use Rattle.flow.specs.Stages.{Result, Whole, onEdge};
 ghost use Rattle.rows.specs.Struct.{rowsOf, Full};
 ghost use Rattle.holding.specs.TakenUp.{held, HeldRoom, Holding, LiveHeld};
@@ -64,18 +66,19 @@ fn offered(
     table: Table,
     b: &[u8],
     g: &[u8],
+    bounds: &[u8],
     from: &[usize],
     kept: &[u8],
     tokens: &[u8],
     links: &mut [u16],
 ) -> Built
     requires { ⌜ (tableRead (now t) ≡ good table) × (edges (now t) ≤ length (now g)) × (nodes (now t) ≤ length (now from)) × (nodes (now t) ≤ length (now kept)) × (edges (now t) ≤ length (now tokens)) × (512 ≤ length (now links)) ⌝ }
-    ensures { λ r. ⌜ (Ranges (r .from) (r .to) 64 × Full (r .offers)) × ((m : Marking) (runs : List ℕ) → Good (now (t .entry)) m → Holding (now (t .entry)) (now (b .entry)) m (held (now (from .entry)) (now (kept .entry)) runs (now (tokens .entry))) → Result (now (t .entry)) m (now (g .entry)) (rowsOf (r .offers) (now (links .exit))) (r .ok) (r .from) (r .to)) ⌝ }
+    ensures { λ r. ⌜ (Ranges (r .from) (r .to) 64 × Full (r .offers)) × ((m : Marking) (goes : ℕ → Option ℕ → Bool) (runs : List ℕ) → Ties (now (t .entry)) (now (g .entry)) (now (bounds .entry)) goes → Good (now (t .entry)) m → Holding (now (t .entry)) (now (b .entry)) m (held (now (from .entry)) (now (kept .entry)) runs (now (tokens .entry))) → Result (now (t .entry)) m goes (rowsOf (r .offers) (now (links .exit))) (r .ok) (r .from) (r .to)) ⌝ }
 {
     let mut codes = [0u8; Table::MOST_EDGES];
     let mut values = [0u32; Table::MOST_EDGES];
     first_offers(t, table, b, from, kept, tokens, &mut codes, &mut values);
-    flow::build(t, table, g, &codes, &values, links)
+    flow::build(t, table, g, bounds, &codes, &values, links)
 }
 
 // The ends of what was built, where the offers' paths go on from `links`.
@@ -90,7 +93,7 @@ fn arranged(
     cells: &mut [u8],
 ) -> EndsAnswer
     requires { ⌜ (tableRead (now t) ≡ good table) × Full (built .offers) × (512 ≤ length (now links)) × Ranges (built .from) (built .to) 64 × SeatsRoom (seats (now ends) (now order) (now lens) (now cells)) ⌝ }
-    ensures { λ r. ⌜ ((m : Marking) (g : List ℕ) (y : Whole (now (t .entry)) m g (rowsOf (built .offers) (now (links .entry))) (built .from) (built .to)) → Arranged r (gather (onEdge (now (t .entry)) g m) (y .order)) (endsOf (now (t .entry)) (offersOf (now (t .entry)) (goesOver g) m)) (now (ends .exit)) (now (order .exit)) (now (lens .exit)) (now (cells .exit))) ⌝ }
+    ensures { λ r. ⌜ ((m : Marking) (goes : ℕ → Option ℕ → Bool) (y : Whole (now (t .entry)) m goes (rowsOf (built .offers) (now (links .entry))) (built .from) (built .to)) → Arranged r (gather (onEdge (now (t .entry)) goes m) (y .order)) (endsOf (now (t .entry)) (offersOf (now (t .entry)) goes m)) (now (ends .exit)) (now (order .exit)) (now (lens .exit)) (now (cells .exit))) ⌝ }
 {
     let last = built.offers.last;
     let many = built.offers.paths;
@@ -117,6 +120,7 @@ fn seat(
     table: Table,
     b: &[u8],
     g: &[u8],
+    bounds: &[u8],
     from: &[usize],
     kept: &[u8],
     tokens: &[u8],
@@ -126,10 +130,10 @@ fn seat(
     cells: &mut [u8],
 ) -> Board
     requires { ⌜ ((tableRead (now t) ≡ good table) × (edges (now t) ≤ length (now g)) × (nodes (now t) ≤ length (now from)) × (nodes (now t) ≤ length (now kept)) × (edges (now t) ≤ length (now tokens))) × SeatsRoom (seats (now ends) (now order) (now lens) (now cells)) ⌝ }
-    ensures { λ r. ⌜ ((runs : List ℕ) → LiveHeld (now (t .entry)) (now (b .entry)) (held (now (from .entry)) (now (kept .entry)) runs (now (tokens .entry))) → guardsFine (now (t .entry)) (now (g .entry)) ≡ true → BoardRead (now (t .entry)) (now (b .entry)) (now (g .entry)) (r .offers) (held (now (from .entry)) (now (kept .entry)) runs (now (tokens .entry))) (seats (now (ends .exit)) (now (order .exit)) (now (lens .exit)) (now (cells .exit))) (r .answer)) ⌝ }
+    ensures { λ r. ⌜ ((runs : List ℕ) → LiveHeld (now (t .entry)) (now (b .entry)) (held (now (from .entry)) (now (kept .entry)) runs (now (tokens .entry))) → termsFine (now (t .entry)) (now (g .entry)) (now (bounds .entry)) ≡ good tt → BoardRead (now (t .entry)) (now (b .entry)) (terms (now (g .entry)) (now (bounds .entry))) (r .offers) (held (now (from .entry)) (now (kept .entry)) runs (now (tokens .entry))) (seats (now (ends .exit)) (now (order .exit)) (now (lens .exit)) (now (cells .exit))) (r .answer)) ⌝ }
 {
     let mut links = [0u16; 512];
-    let built = offered(t, table, b, g, from, kept, tokens, &mut links);
+    let built = offered(t, table, b, g, bounds, from, kept, tokens, &mut links);
     if !built.ok {
         return refused(8, 0);
     }
@@ -141,12 +145,13 @@ fn seat(
     }
 }
 
-// The board of a marking and guards.
+// The board of a marking, guards and bounds.
 pub fn read(
     t: &[u8],
     table: Table,
     b: &[u8],
     g: &[u8],
+    bounds: &[u8],
     from: &mut [usize],
     kept: &mut [u8],
     runs: &mut [u8],
@@ -157,15 +162,28 @@ pub fn read(
     cells: &mut [u8],
 ) -> Board
     requires { ⌜ (tableRead (now t) ≡ good table) × HeldRoom (now t) (held (now from) (now kept) (now runs) (now tokens)) × SeatsRoom (seats (now ends) (now order) (now lens) (now cells)) ⌝ }
-    ensures { λ r. ⌜ BoardRead (now (t .entry)) (now (b .entry)) (now (g .entry)) (r .offers) (held (now (from .exit)) (now (kept .exit)) (now (runs .exit)) (now (tokens .exit))) (seats (now (ends .exit)) (now (order .exit)) (now (lens .exit)) (now (cells .exit))) (r .answer) ⌝ }
+    ensures { λ r. ⌜ BoardRead (now (t .entry)) (now (b .entry)) (terms (now (g .entry)) (now (bounds .entry))) (r .offers) (held (now (from .exit)) (now (kept .exit)) (now (runs .exit)) (now (tokens .exit))) (seats (now (ends .exit)) (now (order .exit)) (now (lens .exit)) (now (cells .exit))) (r .answer) ⌝ }
 {
     match holding::take_up(t, table, b, from, kept, runs, tokens) {
         MarkingAnswer::Live => {}
         MarkingAnswer::Ended => return refused(6, 0),
         MarkingAnswer::Refused(number, place) => return refused(number, place),
     }
-    if let GuardsAnswer::Refused(number, place) = guards::read(t, table, g) {
+    if let TermsAnswer::Refused(number, place) = terms::read(t, table, g, bounds) {
         return refused(number, place);
     }
-    seat(t, table, b, g, from, kept, tokens, ends, order, lens, cells)
+    seat(
+        t,
+        table,
+        b,
+        g,
+        bounds,
+        from,
+        kept,
+        tokens,
+        ends,
+        order,
+        lens,
+        cells,
+    )
 }

@@ -5,7 +5,7 @@ ghost use mathlib.Core.Path.{_≡_};
 ghost use Prim.Native.Nat.{_+_, _≤_, _<_};
 ghost use lib.ListN.{length};
 ghost use Rattle.paper.specs.Answers.{good};
-ghost use Rattle.paper.proofs.Cursor.{wordAt};
+ghost use Rattle.paper.specs.Bytes.{wordAt};
 ghost use Rattle.table.specs.Reading.{tableRead};
 ghost use Rattle.board.specs.Starts.{startCode, Begun};
 

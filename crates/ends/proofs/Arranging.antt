@@ -8,11 +8,11 @@ use native.Mathlib.Decide.{decLt}
 use lib.ListN.{length, getD}
 use Rattle.paper.specs.Lists.{at, gather}
 use Rattle.paper.specs.Table.{edges}
-use Rattle.paper.specs.Offers.{Offer, first, paths, sortedPaths, goesOver, offers}
+use Rattle.paper.specs.Offers.{Offer, first, paths, sortedPaths, offers}
 use Rattle.paper.proofs.Ends.{ends-length}
 use Rattle.paper.proofs.Lengths.{length-each}
 use Rattle.rows.specs.Sets.{nth}
-use Rattle.flow.specs.Stages.{onEdge}
+use Rattle.flow.specs.Stages.{Gates, onEdge}
 use Rattle.paths.specs.Blocks.{Fit, pathIn, byPath, pathsOf}
 use Rattle.paths.proofs.Walks.{length-run}
 use Rattle.paths.proofs.Insertion.{in-order-inside}
@@ -25,9 +25,9 @@ use Rattle.ends.proofs.Meaning.{Done, rows-are-ends, slot-found, paths-
 
 -- row 8
 pub told-many : (t last many before a b rows order lens cells : List ℕ) → 20 < length (endRows t a b (edges t)) → Told (Refused 8 0) t last many before a b rows order lens cells
-told-many t last many before a b rows order lens cells h m g r seen y =
-    let ts = gather (onEdge t g m) (y .order) in
-    (refl, (refl, omega (arith, h, ends-length t (offers t (goesOver g) m), ap length (rows-are-ends y), length-each (nth ts) (endRows t a b (edges t)))))
+told-many t last many before a b rows order lens cells h m goes r seen y =
+    let ts = gather (onEdge t goes m) (y .order) in
+    (refl, (refl, omega (arith, h, ends-length t (offers t goes m), ap length (rows-are-ends y), length-each (nth ts) (endRows t a b (edges t)))))
 
 -- rows and blocks by end, where the slots had them by slot
 pub record Laid (found sorted slots rows order : List ℕ) (n : ℕ) : Type 0 where
@@ -70,7 +70,7 @@ module _ {t a b last many before found sorted slots lens cells rows order : List
   list-entry s j u = sym (run-entry [] (λ i. pathIn lens cells (at sorted i)) (8 * s) (pathsOf many found s) j u)
 
   pub told-good : 2560 ≤ length cells → Told (Good n) t last many before a b rows order lens cells
-  told-good room m g r seen y = record {
+  told-good room m goes r seen y = record {
     number = sym (length-run (λ k. nth ts (at found (at slots k))) 0 n) ∙ ap length (slots-are y seen d);
     few = d .few;
     inside = λ k h. rw (l .rows-laid k h) (slot-found y seen d (at slots k) (slot-inside k h) .inside);
@@ -83,7 +83,7 @@ module _ {t a b last many before found sorted slots lens cells rows order : List
   }
     where
       ts : List Offer
-      ts = gather (onEdge t g m) (y .order)
+      ts = gather (onEdge t goes m) (y .order)
 
       stored : (k : ℕ) → k < n → (j : ℕ) → j < length (paths (nth ts (at found (at slots k)))) → Stored lens cells (at order (8 * k + j)) (getD (sortedPaths (nth ts (at rows k))) j [])
       stored k h j u =

@@ -10,14 +10,14 @@ use Rattle.paper.specs.Lists.{at, from, below, each, keep, gather}
 use Rattle.paper.specs.Limits.{limits}
 use Rattle.paper.specs.Table.{edges, kind, target, isControlNode}
 use Rattle.paper.specs.Marking.{Marking}
-use Rattle.paper.specs.Offers.{Offer, first, lastEdge, paths, goesOver, offers, isEnd, thenBy, lex, sort, sortedPaths, endOrder, ends}
+use Rattle.paper.specs.Offers.{Offer, first, lastEdge, paths, offers, isEnd, thenBy, lex, sort, sortedPaths, endOrder, ends}
 use Rattle.paper.proofs.Members.{In, here, later, in-none, in-gather, in-below, keep-none}
 use Rattle.paper.proofs.Sameness.{on-last}
 use Rattle.paper.proofs.Fuel.{path-short}
 use Rattle.paper.proofs.Lists.{keep-append}
 use Rattle.rows.specs.Sets.{nth}
 use Rattle.rows.specs.Rows.{Rows, Row}
-use Rattle.flow.specs.Stages.{onEdge, Whole}
+use Rattle.flow.specs.Stages.{Gates, onEdge, Whole}
 use Rattle.rows.proofs.Segments.{each-append, seg-nth, seg-len}
 use Rattle.paths.specs.Blocks.{Seen, run, pathIn, byPath, Tame, Back, pathsOf}
 use Rattle.paths.proofs.Insertion.{run-in, in-from}
@@ -31,12 +31,12 @@ pub record Done (t a b last many before found sorted slots lens cells : List ℕ
   pub is-found : run (at found) 0 n ≡ endRows t a b (edges t)
   pub ordered : Ordered last many before found sorted slots lens cells n
 
-module _ {t : List ℕ} {m : Marking} {g : List ℕ} {r : Rows} {a b : List ℕ} (y : Whole t m g r a b) where
+module _ {t : List ℕ} {m : Marking} {goes : Gates} {r : Rows} {a b : List ℕ} (y : Whole t m goes r a b) where
   abbrev on : ℕ → List Offer
-  on = onEdge t g m
+  on = onEdge t goes m
 
   abbrev trees : List Offer
-  trees = gather (onEdge t g m) (y .order)
+  trees = gather (onEdge t goes m) (y .order)
 
   -- ---- the rows that are ends
   -- the rows of an edge are its offers
@@ -51,7 +51,7 @@ module _ {t : List ℕ} {m : Marking} {g : List ℕ} {r : Rows} {a b : List ℕ}
   edge-ends e l = by (isControlNode (kind t (target t e))) refl
     where
       last-is : (o : Offer) → In o (on e) → isEnd t o ≡ not (isControlNode (kind t (target t e)))
-      last-is o k = ap (λ z. not (isControlNode (kind t (target t z)))) (on-last t (goesOver g) m (limits .longestPath) e k)
+      last-is o k = ap (λ z. not (isControlNode (kind t (target t z)))) (on-last t goes m (limits .longestPath) e k)
 
       by : (c : Bool) → isControlNode (kind t (target t e)) ≡ c → keep (isEnd t) (on e) ≡ each (nth trees) (endsOn t a b e)
       by true h = keep-none (isEnd t) (on e) (λ o k. last-is o k ∙ ap not h) ∙ ap (λ z. each (nth trees) (cond z [] (from (at a e) (at b e - at a e)))) (sym h)
@@ -67,7 +67,7 @@ module _ {t : List ℕ} {m : Marking} {g : List ℕ} {r : Rows} {a b : List ℕ}
       ∙ sym (each-append (nth trees) (endsOn t a b e) (gather (endsOn t a b) es))
 
   -- the rows found are the paper's ends, not yet in order
-  pub rows-are-ends : each (nth trees) (endRows t a b (edges t)) ≡ keep (isEnd t) (offers t (goesOver g) m)
+  pub rows-are-ends : each (nth trees) (endRows t a b (edges t)) ≡ keep (isEnd t) (offers t goes m)
   unfolding endRows offers
   rows-are-ends = sym (all-ends (below (edges t)) (λ e k. in-below (edges t) k))
 
@@ -116,7 +116,7 @@ module _ {t : List ℕ} {m : Marking} {g : List ℕ} {r : Rows} {a b : List ℕ}
       tame = tame;
       row = let q = y .holds-ts .count-is in let w = f .inside in omega arith;
       route = y .holds-ts .routes i (f .inside) k l;
-      fits = path-short t (goesOver g) m (limits .longestPath) (f .edge) (f .offer) (entry-in [] (paths (nth trees i)) k l);
+      fits = path-short t goes m (limits .longestPath) (f .edge) (f .offer) (entry-in [] (paths (nth trees i)) k l);
     }
 
     module _ {found sorted slots lens cells : List ℕ} {n : ℕ} (d : Done t a b last many before found sorted slots lens cells n) where
@@ -164,7 +164,7 @@ module _ {t : List ℕ} {m : Marking} {g : List ℕ} {r : Rows} {a b : List ℕ}
           (ap₂ (lex (lex compare)) (list-is s ls) (list-is u lu))
 
       -- the slots in order are the ends
-      pub slots-are : run (λ k. offer (at slots k)) 0 n ≡ ends t (offers t (goesOver g) m)
+      pub slots-are : run (λ k. offer (at slots k)) 0 n ≡ ends t (offers t goes m)
       unfolding ends
       slots-are =
           let z : n - 0 ≡ n = omega arith in

@@ -6,10 +6,10 @@ use lib.ListN.{length, getD, take, drop}
 use Rattle.paper.specs.Lists.{at, gather}
 use Rattle.paper.specs.Limits.{limits}
 use Rattle.paper.specs.Marking.{Marking}
-use Rattle.paper.specs.Offers.{Offer, paths, sortedPaths, goesOver, offers, ends}
+use Rattle.paper.specs.Offers.{Offer, paths, sortedPaths, offers, ends}
 use Rattle.rows.specs.Sets.{nth}
 use Rattle.rows.specs.Rows.{Rows, Ranges}
-use Rattle.flow.specs.Stages.{onEdge, Whole}
+use Rattle.flow.specs.Stages.{Gates, onEdge, Whole}
 pub use Rattle.paths.specs.Blocks.{Seen, Fit}
 use Rattle.ends.specs.declared.EndsAnswer.{EndsAnswer}
 use Rattle.ends.specs.declared.EndsAnswer.the-variants.{Good, Refused}
@@ -62,5 +62,5 @@ Arranged (Refused n p) ts es rows order lens cells = (n ≡ 8) × ((p ≡ 0) × 
 -- of every offer list whose columns are lent, and whose edges have their offers from a to b
 abbrev pub Told : EndsAnswer → List ℕ → List ℕ → List ℕ → List ℕ → List ℕ → List ℕ → List ℕ → List ℕ → List ℕ → List ℕ → Type 0
 Told x t last many before a b rows order lens cells =
-    (m : Marking) (g : List ℕ) (r : Rows) → Seen r last many before → (y : Whole t m g r a b)
-    → Arranged x (gather (onEdge t g m) (y .order)) (ends t (offers t (goesOver g) m)) rows order lens cells
+    (m : Marking) (goes : Gates) (r : Rows) → Seen r last many before → (y : Whole t m goes r a b)
+    → Arranged x (gather (onEdge t goes m) (y .order)) (ends t (offers t goes m)) rows order lens cells

@@ -1,17 +1,18 @@
--- A join: its ways found depth first, what the offers taken come to, and the words that the search goes by. Assumes nothing.
+-- A join: its ways found depth first, what the offers taken come to, and the words that the search goes by. `goes` says which values go over the
+-- outgoing edge. Assumes nothing.
 use mathlib.Core.Path.{_≡_}
 use Prim.Native.Nat.{ℕ, _+_, _^_, _≤_, _<_}
 use mathlib.Core.Bool.{Bool, true, not, _&&_, cond}
 use mathlib.Core.List.{List, [], _∷_, _++_}
 use mathlib.Core.Option.{Option, none}
 use lib.ListN.{length, getD}
-use Rattle.paper.specs.Lists.{any, each, gather, has}
+use Rattle.paper.specs.Lists.{all, any, each, gather, has}
 use Rattle.paper.specs.Table.{edges, target, into}
 use Rattle.paper.specs.Offers.{Offer, first, over, with, parts, makers, paths, value, orElse, compete, ways}
-use Rattle.paper.proofs.Members.{Distinct}
+use Rattle.paper.proofs.Members.{In, Distinct}
 use Rattle.lookahead.specs.Dead.{Room}
 use Rattle.rows.specs.Sets.{nth, Means, Foes}
-use Rattle.rows.specs.Rows.{Rows, Holds, Leads, valueOf, overs, Seg, Leaves}
+use Rattle.rows.specs.Rows.{Rows, Holds, Leads, valueOf, letOver, overs, Seg, Leaves}
 use Rattle.joins.specs.declared.Way.{Way}
 
 -- ---- the search, on trees
@@ -21,15 +22,15 @@ together [] = first 0 none
 together (p ∷ []) = p
 together (p ∷ (q ∷ ps)) = with p (together (q ∷ ps))
 
--- none of pre competes with a part of w
-abbrev pub clear : List ℕ → List Offer → Offer → Bool
-clear t [] w = true
-clear t (p ∷ ps) w = not (any (compete t p) (parts w)) && clear t ps w
+-- every part of w goes over the outgoing edge, and none of pre competes with one
+abbrev pub clear : List ℕ → (Option ℕ → Bool) → List Offer → Offer → Bool
+clear t goes [] w = all (λ p. goes (value p)) (parts w)
+clear t goes (p ∷ ps) w = not (any (compete t p) (parts w)) && clear t goes ps w
 
 -- what the search finds once the offers of pre are taken, where oss are the offers on the edges that are left; e is the outgoing edge
-unfoldable pub found : List ℕ → ℕ → List Offer → List (List Offer) → List Offer
-found t e pre [] = over (together pre) e ∷ []
-found t e pre (os ∷ oss) = gather (λ x. cond (clear t pre x) (found t e (pre ++ (x ∷ [])) oss) []) os
+unfoldable pub found : List ℕ → (Option ℕ → Bool) → ℕ → List Offer → List (List Offer) → List Offer
+found t goes e pre [] = over (together pre) e ∷ []
+found t goes e pre (os ∷ oss) = gather (λ x. cond (clear t goes pre x) (found t goes e (pre ++ (x ∷ [])) oss) []) os
 
 -- ---- what the offers taken come to
 abbrev pub valueAll : List Offer → Option ℕ
@@ -79,9 +80,13 @@ Span a b w = (i : ℕ) → a ≤ i → i < b → has w i ≡ true
 abbrev pub Spans : List ℕ → List ℕ → ℕ → List ℕ → ℕ → Type 0
 Spans a b d seg wanted = (k : ℕ) → k < d → Span (getD a k 0) (getD b k 0) (getD seg k 0) × Span (getD a k 0) (getD b k 0) wanted
 
+-- of the first n offers, w has those that don't go over the outgoing edge
+abbrev pub Bars : (Option ℕ → Bool) → List Offer → ℕ → ℕ → Type 0
+Bars goes ts n w = (j : ℕ) → j < n → has w j ≡ not (goes (value (nth ts j)))
+
 -- of the first n offers, w has those that are not clear of pre
-abbrev pub Blocks : List ℕ → List Offer → ℕ → List Offer → ℕ → Type 0
-Blocks t ts n pre w = (j : ℕ) → j < n → has w j ≡ not (clear t pre (nth ts j))
+abbrev pub Blocks : List ℕ → (Option ℕ → Bool) → List Offer → ℕ → List Offer → ℕ → Type 0
+Blocks t goes ts n pre w = (j : ℕ) → j < n → has w j ≡ not (clear t goes pre (nth ts j))
 
 -- what the search may rely on to run: the edges a to b of the first n of c offers, a word for each, and room for d choices of which q are made
 pub record Safe (m a b bad seg chosen : List ℕ) (n c d q : ℕ) : Type 0 where
@@ -97,14 +102,15 @@ pub record Safe (m a b bad seg chosen : List ℕ) (n c d q : ℕ) : Type 0 where
   pub made : (k : ℕ) → k < q → getD chosen k 0 < n
 
 -- the search from here on: pre is taken on the edges before q, and oss are the offers on the edges q to d
-pub record Dfs (t : List ℕ) (r : Rows) (ts pre : List Offer) (oss : List (List Offer)) (a b bad seg chosen : List ℕ) (n d q blocked wanted e s k : ℕ) : Type 0 where
+pub record Dfs (t : List ℕ) (goes : Option ℕ → Bool) (r : Rows) (ts pre : List Offer) (oss : List (List Offer)) (a b bad seg chosen : List ℕ)
+    (n d q blocked wanted e s k : ℕ) : Type 0 where
   pub holds-ts : Holds t r ts
   pub some-edge : 0 < d
   pub old : n ≤ length ts
   pub levels : Levels ts a b q d oss
-  pub distinct : Distinct (ts ++ found t e pre oss)
+  pub distinct : Distinct (ts ++ found t goes e pre oss)
   pub picked : Picked ts chosen q pre
-  pub blocks : Blocks t ts n pre blocked
+  pub blocks : Blocks t goes ts n pre blocked
   pub rivals : Rivals t ts n wanted bad
   pub spans : Spans a b d seg wanted
   pub leaves : Leaves t e s k
@@ -116,9 +122,11 @@ pub record Listed (a b js lo hi : List ℕ) (d : ℕ) : Type 0 where
   pub lows : (i : ℕ) → i < length js → getD lo i 0 ≡ getD a (getD js i 0) 0
   pub highs : (i : ℕ) → i < length js → getD hi i 0 ≡ getD b (getD js i 0) 0
 
--- the offers on the incoming edges of the join s are to be joined over e
-pub record Meeting (t : List ℕ) (r : Rows) (ts : List Offer) (on : ℕ → List Offer) (a b : List ℕ) (s e k : ℕ) : Type 0 where
+-- the offers on the incoming edges of the join s are to be joined over e, as far as they go over it
+pub record Meeting (t : List ℕ) (goes : Option ℕ → Bool) (r : Rows) (ts : List Offer) (on : ℕ → List Offer) (a b : List ℕ) (s e k : ℕ) : Type 0 where
   pub holds-ts : Holds t r ts
   pub segs : (j : ℕ) → j < edges t → target t j ≡ s → Seg ts (getD a j 0) (getD b j 0) (on j)
-  pub distinct : Distinct (ts ++ overs e (ways t (each on (into t s))))
+  pub distinct : Distinct (ts ++ overs e (letOver goes (ways t (each on (into t s)))))
   pub leaves : Leaves t e s k
+  -- of the offers taken together at most one has a value, so a way goes over the edge exactly if each of its offers does
+  pub one-value : (w : Offer) → In w (ways t (each on (into t s))) → goes (value w) ≡ all (λ p. goes (value p)) (parts w)

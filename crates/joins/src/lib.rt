@@ -1,6 +1,7 @@
 // A join: the search for its ways, depth first with a look-ahead, each put at the end of the rows of offers.
 // Assumes of the table no more than that its bytes span its counts (`Spans`).
 use rows::FOES;
+use rows::Gate;
 use rows::Grown;
 use rows::HAS;
 use rows::MAKERS;
@@ -8,6 +9,7 @@ use rows::MOST_OFFERS;
 use rows::MOST_PATHS;
 use rows::VALUE;
 use rows::WIDTH;
+use rows::admits;
 use rows::compete;
 use rows::grow;
 use rows::lead;
@@ -17,8 +19,9 @@ use wire::wide;
 use words::bit_of;
 use words::in_word;
 ghost use mathlib.Core.Path.{_≡_};
-ghost use mathlib.Core.Bool.{true};
+ghost use mathlib.Core.Bool.{Bool, true};
 ghost use mathlib.Core.List.{List, [], _∷_, _++_};
+ghost use mathlib.Core.Option.{Option};
 ghost use Prim.Native.Nat.{ℕ, _+_, _≤_, _<_};
 ghost use lib.ListN.{length, getD};
 ghost use Rattle.paper.specs.Lists.{each};
@@ -28,8 +31,8 @@ ghost use Rattle.paper.proofs.Members.{In};
 ghost use Rattle.table.specs.Reading.{Spans as TableSpans};
 ghost use Rattle.lookahead.specs.Dead.{Dead, Room};
 ghost use Rattle.rows.specs.Sets.{nth};
-ghost use Rattle.rows.specs.Rows.{rowsIn, Holds, Leaves, Outcome, overs, Ranges};
-ghost use Rattle.joins.specs.Joins.{together, found, Taken, Picked, RivalRow, Rivals, Span, Spans, Within, Safe, Dfs, Listed, Meeting};
+ghost use Rattle.rows.specs.Rows.{rowsIn, admitted, letOver, Holds, Leaves, Outcome, overs, Ranges};
+ghost use Rattle.joins.specs.Joins.{together, found, Taken, Picked, RivalRow, Rivals, Span, Spans, Bars, Within, Safe, Dfs, Listed, Meeting};
 
 // The offers that compete with offer i.
 fn rivals_of(rows: &[u64], count: usize, i: usize) -> u64
@@ -91,6 +94,22 @@ fn spans(lo: &[u8], hi: &[u8], d: usize, edges: &mut [u64]) -> u64
         k += 1;
     }
     wanted
+}
+
+// The offers that a gate doesn't let over its edge.
+fn barred(rows: &[u64], count: usize, gate: Gate) -> u64
+    requires { ⌜ (count ≤ 64) × (1024 ≤ length (now rows)) ⌝ }
+    ensures { λ r. ⌜ ((t : List ℕ) (ts : List Offer) → Holds t (rowsIn (now (rows .entry)) count) ts → Bars (admitted gate) ts count r) ⌝ }
+{
+    let mut d: u64 = 0;
+    let mut j: usize = 0;
+    while j < count {
+        if !admits(gate, rows[WIDTH * j + HAS], rows[WIDTH * j + VALUE]) {
+            d = d | bit_of(j);
+        }
+        j += 1;
+    }
+    d
 }
 
 // What the offers taken at a join come to.
@@ -208,8 +227,9 @@ fn lost(rivals: &[u64], edges: &[u64], n: usize, q: usize, d: usize, blocked: u6
     lookahead::dead(rivals, edges, n, q, d, 0, blocked, d)
 }
 
-// The search for ways, depth first: offers are chosen on the edges before q, and those in `blocked` compete with one of them. n is the number
-// of offers before the join: its own come after them.
+// The search for ways, depth first: offers are chosen on the edges before q, and those in `blocked` compete with one of them or are barred by the
+// gate of edge e. So a barred offer is never taken, and the look-ahead knows of it. n is the number of offers before the join: its own come after
+// them.
 fn join(
     rows: &mut [u64],
     count: usize,
@@ -227,7 +247,7 @@ fn join(
     k: u8,
 ) -> Grown
     requires { ⌜ Safe (now rows) (now lo) (now hi) (now rivals) (now edges) (now chosen) n count d q ⌝ }
-    ensures { λ r. ⌜ ((count ≤ r .count) × (r .count ≤ 64)) × (((k : ℕ) → k < q → getD (now (chosen .exit)) k 0 ≡ getD (now (chosen .entry)) k 0) × ((t : List ℕ) (ts pre : List Offer) (oss : List (List Offer)) (wanted : ℕ) → Dfs t (rowsIn (now (rows .entry)) count) ts pre oss (now (lo .entry)) (now (hi .entry)) (now (rivals .entry)) (now (edges .entry)) (now (chosen .entry)) n d q blocked wanted e s k → Outcome t (rowsIn (now (rows .exit)) (r .count)) (r .ok) (ts ++ found t e pre oss))) ⌝ }
+    ensures { λ r. ⌜ ((count ≤ r .count) × (r .count ≤ 64)) × (((k : ℕ) → k < q → getD (now (chosen .exit)) k 0 ≡ getD (now (chosen .entry)) k 0) × ((t : List ℕ) (goes : Option ℕ → Bool) (ts pre : List Offer) (oss : List (List Offer)) (wanted : ℕ) → Dfs t goes (rowsIn (now (rows .entry)) count) ts pre oss (now (lo .entry)) (now (hi .entry)) (now (rivals .entry)) (now (edges .entry)) (now (chosen .entry)) n d q blocked wanted e s k → Outcome t (rowsIn (now (rows .exit)) (r .count)) (r .ok) (ts ++ found t goes e pre oss))) ⌝ }
 {
     if q == d {
         return leaf(rows, count, chosen, d, e, s, k);
@@ -298,7 +318,7 @@ fn incoming(
     d
 }
 
-// The offers on the incoming edges of the join s, joined over edge e.
+// The offers on the incoming edges of the join s, joined over edge e as far as its gate lets them.
 pub fn meet(
     rows: &mut [u64],
     count: usize,
@@ -309,9 +329,10 @@ pub fn meet(
     s: u8,
     e: u8,
     k: u8,
+    gate: Gate,
 ) -> Grown
     requires { ⌜ (TableSpans (now t) table × ((count ≤ 64) × (1024 ≤ length (now rows)))) × (Ranges (now from) (now to) count × ((64 ≤ length (now from)) × (64 ≤ length (now to)))) ⌝ }
-    ensures { λ r. ⌜ ((count ≤ r .count) × (r .count ≤ 64)) × ((ts : List Offer) (on : ℕ → List Offer) → Meeting (now (t .entry)) (rowsIn (now (rows .entry)) count) ts on (now (from .entry)) (now (to .entry)) s e k → Outcome (now (t .entry)) (rowsIn (now (rows .exit)) (r .count)) (r .ok) (ts ++ overs e (ways (now (t .entry)) (each on (into (now (t .entry)) s))))) ⌝ }
+    ensures { λ r. ⌜ ((count ≤ r .count) × (r .count ≤ 64)) × ((ts : List Offer) (on : ℕ → List Offer) → Meeting (now (t .entry)) (admitted gate) (rowsIn (now (rows .entry)) count) ts on (now (from .entry)) (now (to .entry)) s e k → Outcome (now (t .entry)) (rowsIn (now (rows .exit)) (r .count)) (r .ok) (ts ++ overs e (letOver (admitted gate) (ways (now (t .entry)) (each on (into (now (t .entry)) s)))))) ⌝ }
 {
     let mut lo = [0u8; 64];
     let mut hi = [0u8; 64];
@@ -327,6 +348,7 @@ pub fn meet(
     let mut chosen = [0u8; 64];
     let wanted = spans(&lo, &hi, d, &mut edges);
     rival_rows(rows, count, wanted, &mut rivals);
+    let blocked = barred(rows, count, gate);
     join(
         rows,
         count,
@@ -338,7 +360,7 @@ pub fn meet(
         count,
         d,
         0,
-        0,
+        blocked,
         e,
         s,
         k,

@@ -1,8 +1,8 @@
 -- The exported functions: what their callers learn from their contracts is `Leaves` of the paper's answers on what they are lent, so every theorem on
 -- `Leaves (AllowedBy ..)` is one on them (same bytes, same answer; enough room). Their words settle number, place and length, a pick's 0 and 13 mean what a
--- judge takes them for, and on the call of a case of the small event they leave its answer.
+-- judge takes them for, with count 0 they leave what they left before there were bounds, and on the call of a case of the small event they leave its answer.
 -- `a` are the arguments as lent, in their order, `word` is what is returned, `z` are the arguments at the end. Assumes nothing.
-use mathlib.Core.Path.{_≡_, refl, ap, subst}
+use mathlib.Core.Path.{_≡_, refl, ap, _∙_, subst}
 use mathlib.Core.Bool.{Bool, true, false, cond}
 use mathlib.Core.List.{List, []}
 use Prim.Native.Nat.{ℕ, _<_}
@@ -13,11 +13,13 @@ use contract.Lifetimes.{Lfts}
 use denote.Triple.Clauses.{AtExit}
 use borrow.Fn.Kinds.{PK, RK, Dens, GoodsP, resT, endedOf, Out}
 use Rattle.paper.specs.Answers.{Answer, refused, good}
+use Rattle.paper.specs.Offers.{terms, noBounds}
 use Rattle.paper.specs.Choices.{Board, board, taken}
-use Rattle.paper.specs.Operations.{packed, inRoom, Leaves}
+use Rattle.paper.specs.Operations.{packed, inRoom, Leaves, Only, sheet, step}
 use Rattle.paper.proofs.Bools.{never}
 use Rattle.paper.proofs.Lengths.{length-zero}
 use Rattle.paper.proofs.Members.{In}
+use Rattle.paper.proofs.BeforeBounds.{sheetBefore, PickBefore, stepBefore, sheet-as-before, pick-as-before, step-as-before}
 use Rattle.paper.proofs.Calls.{Call, checks, starts, sheets, picks, steps, finishes, AllowedBy}
 use Rattle.paper.proofs.SameAnswer.{Left, refused-left}
 use Rattle.paper.proofs.PickMeans.{Takable, HasEndOf, empty-means-nothing-can-be-taken, refused-means-none-for-the-node}
@@ -48,16 +50,16 @@ pub start-promises : Promises 3 StartKinds.ps StartKinds.r Start.Learnt
     (λ κs a word z. Leaves (AllowedBy (starts (a .0 .now) (a .1 .0 .now))) word (a .1 .1 .0 .now) (z .1 .1 .0 .now))
 start-promises κs a word z h = h
 
-pub sheet-promises : Promises 4 SheetKinds.ps SheetKinds.r Sheet.Learnt
-    (λ κs a word z. Leaves (AllowedBy (sheets (a .0 .now) (a .1 .0 .now) (a .1 .1 .0 .now))) word (a .1 .1 .1 .0 .now) (z .1 .1 .1 .0 .now))
+pub sheet-promises : Promises 5 SheetKinds.ps SheetKinds.r Sheet.Learnt
+    (λ κs a word z. Leaves (AllowedBy (sheets (a .0 .now) (a .1 .0 .now) (terms (a .1 .1 .0 .now) (a .1 .1 .1 .0 .now)))) word (a .1 .1 .1 .1 .0 .now) (z .1 .1 .1 .1 .0 .now))
 sheet-promises κs a word z h = h
 
-pub pick-promises : Promises 4 PickKinds.ps PickKinds.r Pick.Learnt
-    (λ κs a word z. Leaves (AllowedBy (picks (a .0 .now) (a .1 .0 .now) (a .1 .1 .0 .now) (a .1 .1 .1 .0))) word (a .1 .1 .1 .1 .0 .now) (z .1 .1 .1 .1 .0 .now))
+pub pick-promises : Promises 5 PickKinds.ps PickKinds.r Pick.Learnt
+    (λ κs a word z. Leaves (AllowedBy (picks (a .0 .now) (a .1 .0 .now) (terms (a .1 .1 .0 .now) (a .1 .1 .1 .0 .now)) (a .1 .1 .1 .1 .0))) word (a .1 .1 .1 .1 .1 .0 .now) (z .1 .1 .1 .1 .1 .0 .now))
 pick-promises κs a word z h = h
 
-pub step-promises : Promises 5 StepKinds.ps StepKinds.r Step.Learnt
-    (λ κs a word z. Leaves (AllowedBy (steps (a .0 .now) (a .1 .0 .now) (a .1 .1 .0 .now) (a .1 .1 .1 .0 .now))) word (a .1 .1 .1 .1 .0 .now) (z .1 .1 .1 .1 .0 .now))
+pub step-promises : Promises 6 StepKinds.ps StepKinds.r Step.Learnt
+    (λ κs a word z. Leaves (AllowedBy (steps (a .0 .now) (a .1 .0 .now) (terms (a .1 .1 .0 .now) (a .1 .1 .1 .0 .now)) (a .1 .1 .1 .1 .0 .now))) word (a .1 .1 .1 .1 .1 .0 .now) (z .1 .1 .1 .1 .1 .0 .now))
 step-promises κs a word z h = h
 
 pub finish-promises : Promises 4 FinishKinds.ps FinishKinds.r Finish.Learnt
@@ -71,26 +73,55 @@ check-says κs a word z h = says-answer (checks (a .0 .now)) tt word [] [] (chec
 pub start-says : Promises 3 StartKinds.ps StartKinds.r Start.Learnt (λ κs a word z. SaysAnswer (starts (a .0 .now) (a .1 .0 .now)) (length (a .1 .1 .0 .now)) word)
 start-says κs a word z h = says-answer (starts (a .0 .now) (a .1 .0 .now)) tt word (a .1 .1 .0 .now) (z .1 .1 .0 .now) (start-promises κs a word z h)
 
-pub sheet-says : Promises 4 SheetKinds.ps SheetKinds.r Sheet.Learnt
-    (λ κs a word z. SaysAnswer (sheets (a .0 .now) (a .1 .0 .now) (a .1 .1 .0 .now)) (length (a .1 .1 .1 .0 .now)) word)
+pub sheet-says : Promises 5 SheetKinds.ps SheetKinds.r Sheet.Learnt
+    (λ κs a word z. SaysAnswer (sheets (a .0 .now) (a .1 .0 .now) (terms (a .1 .1 .0 .now) (a .1 .1 .1 .0 .now))) (length (a .1 .1 .1 .1 .0 .now)) word)
 sheet-says κs a word z h =
-    says-answer (sheets (a .0 .now) (a .1 .0 .now) (a .1 .1 .0 .now)) tt word (a .1 .1 .1 .0 .now) (z .1 .1 .1 .0 .now) (sheet-promises κs a word z h)
+    says-answer (sheets (a .0 .now) (a .1 .0 .now) (terms (a .1 .1 .0 .now) (a .1 .1 .1 .0 .now))) tt word (a .1 .1 .1 .1 .0 .now) (z .1 .1 .1 .1 .0 .now) (sheet-promises κs a word z h)
 
 -- the node is a byte: owning the arguments says so (`GoodsP`)
-pub pick-says : (κs : Lfts 4) (a : Dens κs PickKinds.ps) → GoodsP κs PickKinds.ps a → (word : resT PickKinds.r κs .Denot) (z : AtExit (endedOf 4 PickKinds.ps PickKinds.r) κs)
-    → Pick.Learnt κs a word z → SaysAnswer (picks (a .0 .now) (a .1 .0 .now) (a .1 .1 .0 .now) (a .1 .1 .1 .0)) (length (a .1 .1 .1 .1 .0 .now)) word
+pub pick-says : (κs : Lfts 5) (a : Dens κs PickKinds.ps) → GoodsP κs PickKinds.ps a → (word : resT PickKinds.r κs .Denot) (z : AtExit (endedOf 5 PickKinds.ps PickKinds.r) κs)
+    → Pick.Learnt κs a word z → SaysAnswer (picks (a .0 .now) (a .1 .0 .now) (terms (a .1 .1 .0 .now) (a .1 .1 .1 .0 .now)) (a .1 .1 .1 .1 .0)) (length (a .1 .1 .1 .1 .1 .0 .now)) word
 pick-says κs a g word z h =
-    says-answer (picks (a .0 .now) (a .1 .0 .now) (a .1 .1 .0 .now) (a .1 .1 .1 .0)) (g .1 .1 .1 .0 .1) word (a .1 .1 .1 .1 .0 .now) (z .1 .1 .1 .1 .0 .now) (pick-promises κs a word z h)
+    says-answer (picks (a .0 .now) (a .1 .0 .now) (terms (a .1 .1 .0 .now) (a .1 .1 .1 .0 .now)) (a .1 .1 .1 .1 .0)) (g .1 .1 .1 .1 .0 .1) word (a .1 .1 .1 .1 .1 .0 .now) (z .1 .1 .1 .1 .1 .0 .now) (pick-promises κs a word z h)
 
-pub step-says : Promises 5 StepKinds.ps StepKinds.r Step.Learnt
-    (λ κs a word z. SaysAnswer (steps (a .0 .now) (a .1 .0 .now) (a .1 .1 .0 .now) (a .1 .1 .1 .0 .now)) (length (a .1 .1 .1 .1 .0 .now)) word)
+pub step-says : Promises 6 StepKinds.ps StepKinds.r Step.Learnt
+    (λ κs a word z. SaysAnswer (steps (a .0 .now) (a .1 .0 .now) (terms (a .1 .1 .0 .now) (a .1 .1 .1 .0 .now)) (a .1 .1 .1 .1 .0 .now)) (length (a .1 .1 .1 .1 .1 .0 .now)) word)
 step-says κs a word z h =
-    says-answer (steps (a .0 .now) (a .1 .0 .now) (a .1 .1 .0 .now) (a .1 .1 .1 .0 .now)) tt word (a .1 .1 .1 .1 .0 .now) (z .1 .1 .1 .1 .0 .now) (step-promises κs a word z h)
+    says-answer (steps (a .0 .now) (a .1 .0 .now) (terms (a .1 .1 .0 .now) (a .1 .1 .1 .0 .now)) (a .1 .1 .1 .1 .0 .now)) tt word (a .1 .1 .1 .1 .1 .0 .now) (z .1 .1 .1 .1 .1 .0 .now) (step-promises κs a word z h)
 
 pub finish-says : Promises 4 FinishKinds.ps FinishKinds.r Finish.Learnt
     (λ κs a word z. SaysAnswer (finishes (a .0 .now) (a .1 .0 .now) (a .1 .1 .0) (a .1 .1 .1 .0 .now)) (length (a .1 .1 .1 .1 .0 .now)) word)
 finish-says κs a word z h =
     says-answer (finishes (a .0 .now) (a .1 .0 .now) (a .1 .1 .0) (a .1 .1 .1 .0 .now)) tt word (a .1 .1 .1 .1 .0 .now) (z .1 .1 .1 .1 .0 .now) (finish-promises κs a word z h)
+
+-- ---- with count 0 each leaves what it left before there were bounds (`BeforeBounds`)
+pub sheet-as-it-was : Promises 5 SheetKinds.ps SheetKinds.r Sheet.Learnt
+    (λ κs a word z. a .1 .1 .1 .0 .now ≡ noBounds → Leaves (Only (sheetBefore (a .0 .now) (a .1 .0 .now) (a .1 .1 .0 .now))) word (a .1 .1 .1 .1 .0 .now) (z .1 .1 .1 .1 .0 .now))
+sheet-as-it-was κs a word z h e =
+    subst (λ (x : Answer (List ℕ)). Leaves (Only x) word (a .1 .1 .1 .1 .0 .now) (z .1 .1 .1 .1 .0 .now))
+    (ap (λ (x : List ℕ). sheet (a .0 .now) (a .1 .0 .now) (terms (a .1 .1 .0 .now) x)) e ∙ sheet-as-before (a .1 .1 .0 .now) (a .0 .now) (a .1 .0 .now))
+    (sheet-promises κs a word z h)
+
+pub pick-as-it-was : Promises 5 PickKinds.ps PickKinds.r Pick.Learnt
+    (λ κs a word z. a .1 .1 .1 .0 .now ≡ noBounds
+    → Leaves (PickBefore (a .0 .now) (a .1 .0 .now) (a .1 .1 .0 .now) (a .1 .1 .1 .1 .0)) word (a .1 .1 .1 .1 .1 .0 .now) (z .1 .1 .1 .1 .1 .0 .now))
+pick-as-it-was κs a word z h e =
+    let l = subst (λ (x : List ℕ). Leaves (AllowedBy (picks (a .0 .now) (a .1 .0 .now) (terms (a .1 .1 .0 .now) x) (a .1 .1 .1 .1 .0))) word (a .1 .1 .1 .1 .1 .0 .now) (z .1 .1 .1 .1 .1 .0 .now)) e
+    (pick-promises κs a word z h) in
+    record {
+      answer = l .answer;
+      allowed = pick-as-before (a .1 .1 .0 .now) (a .0 .now) (a .1 .0 .now) (a .1 .1 .1 .1 .0) (l .answer) (l .allowed);
+      reply = l .reply;
+    }
+
+pub step-as-it-was : Promises 6 StepKinds.ps StepKinds.r Step.Learnt
+    (λ κs a word z. a .1 .1 .1 .0 .now ≡ noBounds
+    → Leaves (Only (stepBefore (a .0 .now) (a .1 .0 .now) (a .1 .1 .0 .now) (a .1 .1 .1 .1 .0 .now))) word (a .1 .1 .1 .1 .1 .0 .now) (z .1 .1 .1 .1 .1 .0 .now))
+step-as-it-was κs a word z h e =
+    subst (λ (x : Answer (List ℕ)). Leaves (Only x) word (a .1 .1 .1 .1 .1 .0 .now) (z .1 .1 .1 .1 .1 .0 .now))
+    (ap (λ (x : List ℕ). step (a .0 .now) (a .1 .0 .now) (terms (a .1 .1 .0 .now) x) (a .1 .1 .1 .1 .0 .now)) e
+    ∙ step-as-before (a .1 .1 .0 .now) (a .0 .now) (a .1 .0 .now) (a .1 .1 .1 .1 .0 .now))
+    (step-promises κs a word z h)
 
 -- ---- pick's word to a judge
 -- of an answer, cut to the room, the word 0 says that it is the empty choice, and 13's that it is a refusal
@@ -110,37 +141,37 @@ word-13 room n w (good b) l e s = by (leb (length b) room) s
     by true s = absurd (omega (arith, e, s .number))
     by false s = absurd (omega (arith, e, s .number))
 
-module _ (κs : Lfts 4) (a : Dens κs PickKinds.ps) (g : GoodsP κs PickKinds.ps a) (word : resT PickKinds.r κs .Denot) (z : AtExit (endedOf 4 PickKinds.ps PickKinds.r) κs)
-    (h : Pick.Learnt κs a word z) (d : Board) (on : board (a .0 .now) (a .1 .0 .now) (a .1 .1 .0 .now) ≡ good d) where
+module _ (κs : Lfts 5) (a : Dens κs PickKinds.ps) (g : GoodsP κs PickKinds.ps a) (word : resT PickKinds.r κs .Denot) (z : AtExit (endedOf 5 PickKinds.ps PickKinds.r) κs)
+    (h : Pick.Learnt κs a word z) (d : Board) (on : board (a .0 .now) (a .1 .0 .now) (terms (a .1 .1 .0 .now) (a .1 .1 .1 .0 .now)) ≡ good d) where
   -- 0: no end at all can be taken
   pub pick-0-means-nothing-can-be-taken : word ≡ 0 → (x : ℕ) → Takable d x → taken d x ≡ []
   pick-0-means-nothing-can-be-taken e =
       let s = pick-says κs a g word z h in
-      empty-means-nothing-can-be-taken (a .0 .now) (a .1 .0 .now) (a .1 .1 .0 .now) d on (a .1 .1 .1 .0) (rw (word-0 _ word (s .0) e (s .2)) at (s .1))
+      empty-means-nothing-can-be-taken (a .0 .now) (a .1 .0 .now) (terms (a .1 .1 .0 .now) (a .1 .1 .1 .0 .now)) d on (a .1 .1 .1 .1 .0) (rw (word-0 _ word (s .0) e (s .2)) at (s .1))
 
   -- 13: no acceptable set has an end of the node
-  pub pick-13-means-none-for-the-node : word ≡ packed 13 (a .1 .1 .1 .0) 0 → (x : ℕ) → Takable d x → HasEndOf d (a .1 .1 .1 .0) x → ⊥
+  pub pick-13-means-none-for-the-node : word ≡ packed 13 (a .1 .1 .1 .1 .0) 0 → (x : ℕ) → Takable d x → HasEndOf d (a .1 .1 .1 .1 .0) x → ⊥
   pick-13-means-none-for-the-node e =
       let s = pick-says κs a g word z h in
-      let r = word-13 _ (a .1 .1 .1 .0) word (s .0) (g .1 .1 .1 .0 .1) e (s .2) in
-      refused-means-none-for-the-node (a .0 .now) (a .1 .0 .now) (a .1 .1 .0 .now) d on (a .1 .1 .1 .0) (r .0) (r .1) (rw (r .2) at (s .1))
+      let r = word-13 _ (a .1 .1 .1 .1 .0) word (s .0) (g .1 .1 .1 .1 .0 .1) e (s .2) in
+      refused-means-none-for-the-node (a .0 .now) (a .1 .0 .now) (terms (a .1 .1 .0 .now) (a .1 .1 .1 .0 .now)) d on (a .1 .1 .1 .1 .0) (r .0) (r .1) (rw (r .2) at (s .1))
 
 -- ---- the small event: on the call of a row of the table, an export leaves the row's answer
 case-left : (r : Case) → In r cases → (call : Call) → call ≡ r .call → (word : ℕ) (before after : List ℕ) → Leaves (AllowedBy call) word before after → Left (r .answer) word before after
 case-left r m call e word before after l = small-event r m .left word before after (subst (λ (x : Call). Leaves (AllowedBy x) word before after) e l)
 
 module _ (r : Case) (row : In r cases) where
-  pub sheet-case : Promises 4 SheetKinds.ps SheetKinds.r Sheet.Learnt
-      (λ κs a word z. sheets (a .0 .now) (a .1 .0 .now) (a .1 .1 .0 .now) ≡ r .call → Left (r .answer) word (a .1 .1 .1 .0 .now) (z .1 .1 .1 .0 .now))
-  sheet-case κs a word z h e = case-left r row _ e word (a .1 .1 .1 .0 .now) (z .1 .1 .1 .0 .now) (sheet-promises κs a word z h)
+  pub sheet-case : Promises 5 SheetKinds.ps SheetKinds.r Sheet.Learnt
+      (λ κs a word z. sheets (a .0 .now) (a .1 .0 .now) (terms (a .1 .1 .0 .now) (a .1 .1 .1 .0 .now)) ≡ r .call → Left (r .answer) word (a .1 .1 .1 .1 .0 .now) (z .1 .1 .1 .1 .0 .now))
+  sheet-case κs a word z h e = case-left r row _ e word (a .1 .1 .1 .1 .0 .now) (z .1 .1 .1 .1 .0 .now) (sheet-promises κs a word z h)
 
-  pub pick-case : Promises 4 PickKinds.ps PickKinds.r Pick.Learnt
-      (λ κs a word z. picks (a .0 .now) (a .1 .0 .now) (a .1 .1 .0 .now) (a .1 .1 .1 .0) ≡ r .call → Left (r .answer) word (a .1 .1 .1 .1 .0 .now) (z .1 .1 .1 .1 .0 .now))
-  pick-case κs a word z h e = case-left r row _ e word (a .1 .1 .1 .1 .0 .now) (z .1 .1 .1 .1 .0 .now) (pick-promises κs a word z h)
+  pub pick-case : Promises 5 PickKinds.ps PickKinds.r Pick.Learnt
+      (λ κs a word z. picks (a .0 .now) (a .1 .0 .now) (terms (a .1 .1 .0 .now) (a .1 .1 .1 .0 .now)) (a .1 .1 .1 .1 .0) ≡ r .call → Left (r .answer) word (a .1 .1 .1 .1 .1 .0 .now) (z .1 .1 .1 .1 .1 .0 .now))
+  pick-case κs a word z h e = case-left r row _ e word (a .1 .1 .1 .1 .1 .0 .now) (z .1 .1 .1 .1 .1 .0 .now) (pick-promises κs a word z h)
 
-  pub step-case : Promises 5 StepKinds.ps StepKinds.r Step.Learnt
-      (λ κs a word z. steps (a .0 .now) (a .1 .0 .now) (a .1 .1 .0 .now) (a .1 .1 .1 .0 .now) ≡ r .call → Left (r .answer) word (a .1 .1 .1 .1 .0 .now) (z .1 .1 .1 .1 .0 .now))
-  step-case κs a word z h e = case-left r row _ e word (a .1 .1 .1 .1 .0 .now) (z .1 .1 .1 .1 .0 .now) (step-promises κs a word z h)
+  pub step-case : Promises 6 StepKinds.ps StepKinds.r Step.Learnt
+      (λ κs a word z. steps (a .0 .now) (a .1 .0 .now) (terms (a .1 .1 .0 .now) (a .1 .1 .1 .0 .now)) (a .1 .1 .1 .1 .0 .now) ≡ r .call → Left (r .answer) word (a .1 .1 .1 .1 .1 .0 .now) (z .1 .1 .1 .1 .1 .0 .now))
+  step-case κs a word z h e = case-left r row _ e word (a .1 .1 .1 .1 .1 .0 .now) (z .1 .1 .1 .1 .1 .0 .now) (step-promises κs a word z h)
 
   pub finish-case : Promises 4 FinishKinds.ps FinishKinds.r Finish.Learnt
       (λ κs a word z. finishes (a .0 .now) (a .1 .0 .now) (a .1 .1 .0) (a .1 .1 .1 .0 .now) ≡ r .call → Left (r .answer) word (a .1 .1 .1 .1 .0 .now) (z .1 .1 .1 .1 .0 .now))
@@ -151,10 +182,10 @@ module _ (r : Case) (row : In r cases) where
     refused-case : (word : ℕ) (before after : List ℕ) → Left (r .answer) word before after → (word ≡ packed n p 0) × (after ≡ before)
     refused-case word before after l = refused-left (subst (λ (x : Answer (List ℕ)). Left x word before after) q l)
 
-    pub pick-refused-case : Promises 4 PickKinds.ps PickKinds.r Pick.Learnt
-        (λ κs a word z. picks (a .0 .now) (a .1 .0 .now) (a .1 .1 .0 .now) (a .1 .1 .1 .0) ≡ r .call → (word ≡ packed n p 0) × (z .1 .1 .1 .1 .0 .now ≡ a .1 .1 .1 .1 .0 .now))
-    pick-refused-case κs a word z h e = refused-case word (a .1 .1 .1 .1 .0 .now) (z .1 .1 .1 .1 .0 .now) (pick-case κs a word z h e)
+    pub pick-refused-case : Promises 5 PickKinds.ps PickKinds.r Pick.Learnt
+        (λ κs a word z. picks (a .0 .now) (a .1 .0 .now) (terms (a .1 .1 .0 .now) (a .1 .1 .1 .0 .now)) (a .1 .1 .1 .1 .0) ≡ r .call → (word ≡ packed n p 0) × (z .1 .1 .1 .1 .1 .0 .now ≡ a .1 .1 .1 .1 .1 .0 .now))
+    pick-refused-case κs a word z h e = refused-case word (a .1 .1 .1 .1 .1 .0 .now) (z .1 .1 .1 .1 .1 .0 .now) (pick-case κs a word z h e)
 
-    pub step-refused-case : Promises 5 StepKinds.ps StepKinds.r Step.Learnt
-        (λ κs a word z. steps (a .0 .now) (a .1 .0 .now) (a .1 .1 .0 .now) (a .1 .1 .1 .0 .now) ≡ r .call → (word ≡ packed n p 0) × (z .1 .1 .1 .1 .0 .now ≡ a .1 .1 .1 .1 .0 .now))
-    step-refused-case κs a word z h e = refused-case word (a .1 .1 .1 .1 .0 .now) (z .1 .1 .1 .1 .0 .now) (step-case κs a word z h e)
+    pub step-refused-case : Promises 6 StepKinds.ps StepKinds.r Step.Learnt
+        (λ κs a word z. steps (a .0 .now) (a .1 .0 .now) (terms (a .1 .1 .0 .now) (a .1 .1 .1 .0 .now)) (a .1 .1 .1 .1 .0 .now) ≡ r .call → (word ≡ packed n p 0) × (z .1 .1 .1 .1 .1 .0 .now ≡ a .1 .1 .1 .1 .1 .0 .now))
+    step-refused-case κs a word z h e = refused-case word (a .1 .1 .1 .1 .1 .0 .now) (z .1 .1 .1 .1 .1 .0 .now) (step-case κs a word z h e)

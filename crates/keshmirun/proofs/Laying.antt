@@ -4,6 +4,7 @@ use mathlib.Core.List.{List}
 use Prim.Native.Nat.{ℕ}
 use native.Mathlib.Omega.{arith}
 use lib.ListN.{length}
+use Rattle.paper.specs.Offers.{Terms}
 use Rattle.paper.specs.Operations.{inRoom, Reply}
 use Rattle.paper.proofs.Boards.{board-good}
 use Rattle.paper.proofs.Bytes.{Bytes}
@@ -16,7 +17,7 @@ use Rattle.picking.specs.Picking.{Pickable}
 use Rattle.stepping.specs.Stepping.{chosen, Standing}
 
 -- ---- pick
-pub laid-pickable : {t b g : List ℕ} {o : Offers} {x : Held} {s : Seats} {n : ℕ} → Laid t b g o x s n → SeatsRoom s → Pickable t o (s .ends) n
+pub laid-pickable : {t b : List ℕ} {w : Terms} {o : Offers} {x : Held} {s : Seats} {n : ℕ} → Laid t b w o x s n → SeatsRoom s → Pickable t o (s .ends) n
 laid-pickable l r = record {
   full = l .full;
   few-rows = l .seated .holds-ts .fits;
@@ -29,9 +30,9 @@ laid-pickable l r = record {
 }
 
 -- ---- step
-pub laid-standing : {t b g : List ℕ} {o : Offers} {x : Held} {s : Seats} {n : ℕ} → Laid t b g o x s n → Bytes b → Standing t b o x (s .ends) n
-laid-standing {t} {b} {g} l u =
-    let f = board-good t b g (l .on) (l .is-board) in
+pub laid-standing : {t b : List ℕ} {w : Terms} {o : Offers} {x : Held} {s : Seats} {n : ℕ} → Laid t b w o x s n → Bytes b → Standing t b o x (s .ends) n
+laid-standing {t} {b} {w} l u =
+    let f = board-good t b w (l .on) (l .is-board) in
     let r = read-is-good t b (l .on .current) u (f .is-read) in
     record {
       on = l .on;
@@ -46,7 +47,7 @@ laid-standing {t} {b} {g} l u =
       holding = l .holding;
     }
 
-pub standing-reply : {t b g : List ℕ} {o : Offers} {x : Held} {s : Seats} {n : ℕ} (l : Laid t b g o x s n) → Bytes b → (ks : List ℕ) (w : ℕ) (out after : List ℕ)
-    → ((y : Standing t b o x (s .ends) n) → Reply (inRoom (length out) (chosen t (y .on) ks)) w out after) → Reply (inRoom (length out) (chosen t (l .on) ks)) w out after
+pub standing-reply : {t b : List ℕ} {w : Terms} {o : Offers} {x : Held} {s : Seats} {n : ℕ} (l : Laid t b w o x s n) → Bytes b → (ks : List ℕ) (word : ℕ) (out after : List ℕ)
+    → ((y : Standing t b o x (s .ends) n) → Reply (inRoom (length out) (chosen t (y .on) ks)) word out after) → Reply (inRoom (length out) (chosen t (l .on) ks)) word out after
 unfolding laid-standing
-standing-reply l u ks w out after h = h (laid-standing l u)
+standing-reply l u ks word out after h = h (laid-standing l u)

@@ -5,6 +5,7 @@ use mathlib.Core.List.{List}
 use Prim.Native.Nat.{ℕ}
 use Rattle.paper.specs.Answers.{Answer, refused, good, judgedBy, isGood}
 use Rattle.paper.specs.Marking.{encode}
+use Rattle.paper.specs.Offers.{Terms}
 use Rattle.paper.specs.Choices.{Board, board, howMany, rules, acceptable, next}
 use Rattle.paper.specs.Operations.{sheet, wanted, PickOn, PickIf, Pick, choiceOf, stepOf, step}
 use Rattle.paper.proofs.Bools.{never, and-true}
@@ -36,27 +37,27 @@ steps-on d n ks p =
     let w : wanted d n (choiceOf ks) ≡ true = subst (λ (c : ℕ). wanted d n c ≡ true) (q .1) (p .1 .passes) in
     rw (sym (choice-is ks (howMany d)) ∙ q .0, wanted-judged d n (choiceOf ks) w)
 
-pub pick-steps : (t b g : List ℕ) (n : ℕ) (ks : List ℕ) (d : Board) → board t b g ≡ good d → Pick t b g n (good ks) → step t b g ks ≡ good (encode t (next d (choiceOf ks)))
+pub pick-steps : (t b : List ℕ) (w : Terms) (n : ℕ) (ks : List ℕ) (d : Board) → board t b w ≡ good d → Pick t b w n (good ks) → step t b w ks ≡ good (encode t (next d (choiceOf ks)))
 unfolding Pick step
-pick-steps t b g n ks d e h = let p : PickIf (good d) n (good ks) = rw e at h in rw (e, steps-on d n ks p)
+pick-steps t b w n ks d e h = let p : PickIf (good d) n (good ks) = rw e at h in rw (e, steps-on d n ks p)
 
 -- wherever pick has an answer there is a board, and so a step
-pub pick-accepted : (t b g : List ℕ) (n : ℕ) (ks : List ℕ) → Pick t b g n (good ks) → (after : List ℕ) × (step t b g ks ≡ good after)
+pub pick-accepted : (t b : List ℕ) (w : Terms) (n : ℕ) (ks : List ℕ) → Pick t b w n (good ks) → (after : List ℕ) × (step t b w ks ≡ good after)
 unfolding Pick
-pick-accepted t b g n ks = by (board t b g) refl
+pick-accepted t b w n ks = by (board t b w) refl
   where
-    by : (r : Answer Board) → board t b g ≡ r → PickIf r n (good ks) → (after : List ℕ) × (step t b g ks ≡ good after)
+    by : (r : Answer Board) → board t b w ≡ r → PickIf r n (good ks) → (after : List ℕ) × (step t b w ks ≡ good after)
     by (refused k p) e h = no-good (sym h)
-    by (good d) e h = (encode t (next d (choiceOf ks)), pick-steps t b g n ks d e (rw e h))
+    by (good d) e h = (encode t (next d (choiceOf ks)), pick-steps t b w n ks d e (rw e h))
 
 -- ---- where sheet isn't refused
-module _ (t b g x : List ℕ) (h : sheet t b g ≡ good x) where
-  on-board : (d : Board) × (board t b g ≡ good d)
+module _ (t b : List ℕ) (w : Terms) (x : List ℕ) (h : sheet t b w ≡ good x) where
+  on-board : (d : Board) × (board t b w ≡ good d)
   unfolding sheet
-  on-board = let r = row-good (board t b g) _ x h in (r .0, r .1)
+  on-board = let r = row-good (board t b w) _ x h in (r .0, r .1)
 
-  pub unnamed-answered : (ks : List ℕ) × Pick t b g 255 (good ks)
-  unnamed-answered = unnamed-picks t b g (on-board .0) (on-board .1)
+  pub unnamed-answered : (ks : List ℕ) × Pick t b w 255 (good ks)
+  unnamed-answered = unnamed-picks t b w (on-board .0) (on-board .1)
 
-  pub unnamed-unrefused : (k p : ℕ) → Pick t b g 255 (refused k p) → ⊥
-  unnamed-unrefused = unnamed-never-13 t b g (on-board .0) (on-board .1)
+  pub unnamed-unrefused : (k p : ℕ) → Pick t b w 255 (refused k p) → ⊥
+  unnamed-unrefused = unnamed-never-13 t b w (on-board .0) (on-board .1)

@@ -5,6 +5,7 @@ use Prim.Native.Nat.{ℕ, _+_, _^_, _≤_, _<_}
 use native.Mathlib.Omega.{arith}
 use lib.ListN.{length}
 use Rattle.paper.specs.Answers.{refused, good}
+use Rattle.paper.specs.Offers.{Terms}
 use Rattle.paper.specs.Choices.{board}
 use Rattle.paper.specs.Operations.{sheet, step, PickOn, Pick, packed, inRoom, Reply, Leaves}
 use Rattle.table.specs.Reading.{tableRead}
@@ -21,23 +22,23 @@ use Rattle.keshmirun.specs.declared.asking.Request.{Request}
 use Rattle.keshmirun.specs.declared.asking.Request.the-variants.{Sheet, Pick as PickFor, Step, Count}
 use Rattle.keshmirun.specs.Asking.{Counted, Responds, Read}
 
-module _ (t b g ks : List ℕ) where
-  -- ---- rows 1 to 8
-  pub asked-refused : (q : Request) (n p w : ℕ) (out : List ℕ) → board t b g ≡ refused n p → w ≡ packed n p 0 → Responds q t b g ks w out out
+module _ (t b : List ℕ) (w : Terms) (ks : List ℕ) where
+  -- ---- rows 1 to 8, and 18
+  pub asked-refused : (q : Request) (n p word : ℕ) (out : List ℕ) → board t b w ≡ refused n p → word ≡ packed n p 0 → Responds q t b w ks word out out
   unfolding sheet Pick step Counted
-  asked-refused Sheet n p w out e h = record { answer = refused n p; allowed = sym (rw e); reply = (h, refl) }
-  asked-refused (PickFor i) n p w out e h = record { answer = refused n p; allowed = rw e refl; reply = (h, refl) }
-  asked-refused Step n p w out e h = record { answer = refused n p; allowed = sym (rw e); reply = (h, refl) }
-  asked-refused (Count i) n p w out e h = (rw e h, refl)
+  asked-refused Sheet n p word out e h = record { answer = refused n p; allowed = sym (rw e); reply = (h, refl) }
+  asked-refused (PickFor i) n p word out e h = record { answer = refused n p; allowed = rw e refl; reply = (h, refl) }
+  asked-refused Step n p word out e h = record { answer = refused n p; allowed = sym (rw e); reply = (h, refl) }
+  asked-refused (Count i) n p word out e h = (rw e h, refl)
 
-  pub table-refused : (q : Request) (n p w : ℕ) (out : List ℕ) → tableRead t ≡ refused n p → w ≡ packed n p 0 → Responds q t b g ks w out out
-  table-refused q n p w out e h = asked-refused q n p w out (board-refused t b g n p e) h
+  pub table-refused : (q : Request) (n p word : ℕ) (out : List ℕ) → tableRead t ≡ refused n p → word ≡ packed n p 0 → Responds q t b w ks word out out
+  table-refused q n p word out e h = asked-refused q n p word out (board-refused t b w n p e) h
 
   -- ---- on a board
-  module _ {o : Offers} {x : Held} {s : Seats} {n : ℕ} (l : Laid t b g o x s n) (q : Request) (w : ℕ) (out after : List ℕ) where
+  module _ {o : Offers} {x : Held} {s : Seats} {n : ℕ} (l : Laid t b w o x s n) (q : Request) (word : ℕ) (out after : List ℕ) where
     pub sheet-leaves : q ≡ Sheet → 2560 ≤ length (s .cells)
-        → Reply (inRoom (length out) (good (sheetShown (o .last) (o .has) (o .value) (o .paths) (s .ends) (s .order) (s .lens) (s .cells) n))) w out after
-        → Responds q t b g ks w out after
+        → Reply (inRoom (length out) (good (sheetShown (o .last) (o .has) (o .value) (o .paths) (s .ends) (s .order) (s .lens) (s .cells) n))) word out after
+        → Responds q t b w ks word out after
     unfolding sheet
     sheet-leaves e room h =
         rw e
@@ -47,28 +48,28 @@ module _ (t b g ks : List ℕ) where
           reply = h;
         })
 
-    pub pick-leaves : (i : ℕ) → q ≡ PickFor i → Leaves (PickOn (l .on) i) w out after → Responds q t b g ks w out after
+    pub pick-leaves : (i : ℕ) → q ≡ PickFor i → Leaves (PickOn (l .on) i) word out after → Responds q t b w ks word out after
     unfolding Pick
     pick-leaves i e h = rw e (record { answer = h .answer; allowed = rw (l .is-board) (h .allowed); reply = h .reply })
 
-    pub step-leaves : q ≡ Step → Reply (inRoom (length out) (chosen t (l .on) ks)) w out after → Responds q t b g ks w out after
+    pub step-leaves : q ≡ Step → Reply (inRoom (length out) (chosen t (l .on) ks)) word out after → Responds q t b w ks word out after
     unfolding step chosen
     step-leaves e h = rw e (record { answer = chosen t (l .on) ks; allowed = sym (rw (l .is-board)); reply = h })
 
-    pub count-leaves : (i : ℕ) → q ≡ Count i → (1 ≤ w) × (w < 2 ^ (n + 22)) → Responds q t b g ks w out out
+    pub count-leaves : (i : ℕ) → q ≡ Count i → (1 ≤ word) × (word < 2 ^ (n + 22)) → Responds q t b w ks word out out
     unfolding Counted
     count-leaves i e h = rw e (rw (l .is-board, ← l .seated .number) h, refl)
 
 -- ---- what the board's reader answered, taken apart
 module _ {t b : List ℕ} {o : Offers} {x : Held} {s : Seats} {r : EndsAnswer} (y : Read t b o x s r) where
-  pub read-refused : (ks : List ℕ) (q : Request) (n p w : ℕ) (out : List ℕ) → r ≡ Refused n p → w ≡ packed n p 0 → Responds q t b (y .guards) ks w out out
-  read-refused ks q n p w out e h = asked-refused t b (y .guards) ks q n p w out (read-refusal t b (y .guards) o x s r (y .is-read) n p e) h
+  pub read-refused : (ks : List ℕ) (q : Request) (n p word : ℕ) (out : List ℕ) → r ≡ Refused n p → word ≡ packed n p 0 → Responds q t b (y .under) ks word out out
+  read-refused ks q n p word out e h = asked-refused t b (y .under) ks q n p word out (read-refusal t b (y .under) o x s r (y .is-read) n p e) h
 
-  pub laid-in : (n : ℕ) → r ≡ Good n → Laid t b (y .guards) o x s n
-  laid-in n e = read-laid t b (y .guards) o x s r (y .is-read) n e
+  pub laid-in : (n : ℕ) → r ≡ Good n → Laid t b (y .under) o x s n
+  laid-in n e = read-laid t b (y .under) o x s r (y .is-read) n e
 
 -- ---- what is lent
-module _ {t b g : List ℕ} {o : Offers} {x : Held} {s : Seats} {n : ℕ} (l : Laid t b g o x s n) (r : SeatsRoom s) where
+module _ {t b : List ℕ} {w : Terms} {o : Offers} {x : Held} {s : Seats} {n : ℕ} (l : Laid t b w o x s n) (r : SeatsRoom s) where
   pub laid-shows : Shows (o .last) (o .has) (o .value) (o .paths) (s .ends) (s .order) (s .lens) (s .cells) n
   laid-shows = record {
     measured =

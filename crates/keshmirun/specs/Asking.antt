@@ -3,6 +3,7 @@ use Prim.Native.Nat.{ℕ, _+_, _^_, _≤_, _<_}
 use mathlib.Core.Path.{_≡_}
 use mathlib.Core.List.{List}
 use Rattle.paper.specs.Answers.{Answer, refused, good}
+use Rattle.paper.specs.Offers.{Terms}
 use Rattle.paper.specs.Choices.{Board, board, howMany}
 use Rattle.paper.specs.Operations.{Leaves, Only, packed, sheet, Pick, step}
 use Rattle.rows.specs.declared.Offers.{Offers}
@@ -17,13 +18,13 @@ unfoldable pub Counted : Answer Board → ℕ → Type 0
 Counted (refused k p) word = word ≡ packed k p 0
 Counted (good d) word = (1 ≤ word) × (word < 2 ^ (howMany d + 22))
 
-abbrev pub Responds : Request → (t b g ks : List ℕ) → ℕ → (before after : List ℕ) → Type 0
-Responds Sheet t b g ks word before after = Leaves (Only (sheet t b g)) word before after
-Responds (PickFor i) t b g ks word before after = Leaves (Pick t b g i) word before after
-Responds Step t b g ks word before after = Leaves (Only (step t b g ks)) word before after
-Responds (Count i) t b g ks word before after = Counted (board t b g) word × (after ≡ before)
+abbrev pub Responds : Request → (t b : List ℕ) → Terms → (ks : List ℕ) → ℕ → (before after : List ℕ) → Type 0
+Responds Sheet t b w ks word before after = Leaves (Only (sheet t b w)) word before after
+Responds (PickFor i) t b w ks word before after = Leaves (Pick t b w i) word before after
+Responds Step t b w ks word before after = Leaves (Only (step t b w ks)) word before after
+Responds (Count i) t b w ks word before after = Counted (board t b w) word × (after ≡ before)
 
--- what board::read answered, under some guards
+-- what board::read answered, under some terms
 pub record Read (t b : List ℕ) (o : Offers) (x : Held) (s : Seats) (r : EndsAnswer) : Type 0 where
-  pub guards : List ℕ
-  pub is-read : BoardRead t b guards o x s r
+  pub under : Terms
+  pub is-read : BoardRead t b under o x s r

@@ -6,6 +6,7 @@ use holding::Held;
 use table::Table;
 ghost use mathlib.Core.Path.{_≡_};
 ghost use Rattle.paper.specs.Answers.{good};
+ghost use Rattle.paper.specs.Offers.{terms};
 ghost use Rattle.table.specs.Reading.{tableRead};
 ghost use Rattle.holding.specs.TakenUp.{HeldFull};
 ghost use Rattle.board.specs.Reading.{seats, SeatsRoom};
@@ -35,7 +36,7 @@ fn respond(
     out: &mut [u8],
 ) -> u64
     requires { ⌜ (tableRead (now t) ≡ good table) × HeldFull held × SeatsRoom (seats (now ends) (now order) (now lens) (now cells)) × Read (now t) (now b) (board .offers) held (seats (now ends) (now order) (now lens) (now cells)) (board .answer) ⌝ }
-    ensures { λ r. ⌜ ((y : Read (now (t .entry)) (now (b .entry)) (board .offers) held (seats (now (ends .entry)) (now (order .entry)) (now (lens .entry)) (now (cells .entry))) (board .answer)) → Responds request (now (t .entry)) (now (b .entry)) (y .guards) (now (choice .entry)) r (now (out .entry)) (now (out .exit))) ⌝ }
+    ensures { λ r. ⌜ ((y : Read (now (t .entry)) (now (b .entry)) (board .offers) held (seats (now (ends .entry)) (now (order .entry)) (now (lens .entry)) (now (cells .entry))) (board .answer)) → Responds request (now (t .entry)) (now (b .entry)) (y .under) (now (choice .entry)) r (now (out .entry)) (now (out .exit))) ⌝ }
 {
     let answer = board.answer;
     let n = match answer {
@@ -50,18 +51,19 @@ fn respond(
     }
 }
 
-// The board of a marking and guards is read, and the request answered.
+// The board of a marking, guards and bounds is read, and the request answered.
 pub fn ask(
     t: &[u8],
     table: Table,
     b: &[u8],
     g: &[u8],
+    bounds: &[u8],
     request: Request,
     choice: &[u8],
     out: &mut [u8],
 ) -> u64
     requires { ⌜ tableRead (now t) ≡ good table ⌝ }
-    ensures { λ r. ⌜ Responds request (now (t .entry)) (now (b .entry)) (now (g .entry)) (now (choice .entry)) r (now (out .entry)) (now (out .exit)) ⌝ }
+    ensures { λ r. ⌜ Responds request (now (t .entry)) (now (b .entry)) (terms (now (g .entry)) (now (bounds .entry))) (now (choice .entry)) r (now (out .entry)) (now (out .exit)) ⌝ }
 {
     let mut from = [0usize; Table::MOST_NODES];
     let mut kept = [0u8; Table::MOST_NODES];
@@ -76,6 +78,7 @@ pub fn ask(
         table,
         b,
         g,
+        bounds,
         &mut from,
         &mut kept,
         &mut runs,

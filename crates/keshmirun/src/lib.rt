@@ -6,6 +6,7 @@ use asking::Request;
 use asking::ask;
 use table::TableAnswer;
 ghost use mathlib.Core.List.{[]};
+ghost use Rattle.paper.specs.Offers.{terms};
 ghost use Rattle.paper.specs.Choices.{board};
 ghost use Rattle.paper.specs.Operations.{
   Leaves,
@@ -18,6 +19,9 @@ ghost use Rattle.paper.specs.Operations.{
   Pick,
 };
 ghost use Rattle.keshmirun.specs.Asking.{Counted};
+
+// The bounds list with count 0, which bars nothing.
+pub const NO_BOUNDS: [u8; 4] = [0, 2, 1, 0];
 
 // Whether the bytes are a table. Writes nothing.
 #[no_mangle]
@@ -44,31 +48,53 @@ pub extern "C" fn start(table: &[u8], values: &[u8], out: &mut [u8]) -> u64
 
 // The ends that are offered, in order, with their values and paths.
 #[no_mangle]
-pub extern "C" fn sheet(table: &[u8], marking: &[u8], guards: &[u8], out: &mut [u8]) -> u64
-    ensures { λ r. ⌜ Leaves (Only (shown (now (table .entry)) (now (marking .entry)) (now (guards .entry)))) r (now (out .entry)) (now (out .exit)) ⌝ }
+pub extern "C" fn sheet(
+    table: &[u8],
+    marking: &[u8],
+    guards: &[u8],
+    bounds: &[u8],
+    out: &mut [u8],
+) -> u64
+    ensures { λ r. ⌜ Leaves (Only (shown (now (table .entry)) (now (marking .entry)) (terms (now (guards .entry)) (now (bounds .entry))))) r (now (out .entry)) (now (out .exit)) ⌝ }
 {
     let x = match checking::read(table) {
         TableAnswer::Good(x) => x,
         TableAnswer::Refused(number, place) => return wire::pack(number, place, 0),
     };
-    ask(table, x, marking, guards, Request::Sheet, b"", out)
+    ask(table, x, marking, guards, bounds, Request::Sheet, b"", out)
 }
 
 // The first acceptable choice, or the first that has an end of the named node; 255 names none.
 #[no_mangle]
-pub extern "C" fn pick(table: &[u8], marking: &[u8], guards: &[u8], node: u8, out: &mut [u8]) -> u64
-    ensures { λ r. ⌜ Leaves (Pick (now (table .entry)) (now (marking .entry)) (now (guards .entry)) node) r (now (out .entry)) (now (out .exit)) ⌝ }
+pub extern "C" fn pick(
+    table: &[u8],
+    marking: &[u8],
+    guards: &[u8],
+    bounds: &[u8],
+    node: u8,
+    out: &mut [u8],
+) -> u64
+    ensures { λ r. ⌜ Leaves (Pick (now (table .entry)) (now (marking .entry)) (terms (now (guards .entry)) (now (bounds .entry))) node) r (now (out .entry)) (now (out .exit)) ⌝ }
 {
     let x = match checking::read(table) {
         TableAnswer::Good(x) => x,
         TableAnswer::Refused(number, place) => return wire::pack(number, place, 0),
     };
-    ask(table, x, marking, guards, Request::Pick(node), b"", out)
+    ask(
+        table,
+        x,
+        marking,
+        guards,
+        bounds,
+        Request::Pick(node),
+        b"",
+        out,
+    )
 }
 
-// How many states the search of pick visits, or the word of a refusal of rows 1 to 8: a measure that tests hold down, and no part of what is exported.
-pub fn visits(table: &[u8], marking: &[u8], guards: &[u8], node: u8) -> u64
-    ensures { λ r. ⌜ Counted (board (now (table .entry)) (now (marking .entry)) (now (guards .entry))) r ⌝ }
+// How many states the search of pick visits, or the word of a refusal of rows 1 to 8 or 18: a measure that tests hold down, and no part of what is exported.
+pub fn visits(table: &[u8], marking: &[u8], guards: &[u8], bounds: &[u8], node: u8) -> u64
+    ensures { λ r. ⌜ Counted (board (now (table .entry)) (now (marking .entry)) (terms (now (guards .entry)) (now (bounds .entry)))) r ⌝ }
 {
     let x = match checking::read(table) {
         TableAnswer::Good(x) => x,
@@ -80,6 +106,7 @@ pub fn visits(table: &[u8], marking: &[u8], guards: &[u8], node: u8) -> u64
         x,
         marking,
         guards,
+        bounds,
         Request::Count(node),
         b"",
         &mut nothing,
@@ -92,16 +119,26 @@ pub extern "C" fn step(
     table: &[u8],
     marking: &[u8],
     guards: &[u8],
+    bounds: &[u8],
     choice: &[u8],
     out: &mut [u8],
 ) -> u64
-    ensures { λ r. ⌜ Leaves (Only (stepped (now (table .entry)) (now (marking .entry)) (now (guards .entry)) (now (choice .entry)))) r (now (out .entry)) (now (out .exit)) ⌝ }
+    ensures { λ r. ⌜ Leaves (Only (stepped (now (table .entry)) (now (marking .entry)) (terms (now (guards .entry)) (now (bounds .entry))) (now (choice .entry)))) r (now (out .entry)) (now (out .exit)) ⌝ }
 {
     let x = match checking::read(table) {
         TableAnswer::Good(x) => x,
         TableAnswer::Refused(number, place) => return wire::pack(number, place, 0),
     };
-    ask(table, x, marking, guards, Request::Step, choice, out)
+    ask(
+        table,
+        x,
+        marking,
+        guards,
+        bounds,
+        Request::Step,
+        choice,
+        out,
+    )
 }
 
 // The marking after an action ends, with the values of its output pins.

@@ -68,7 +68,13 @@ fn sheet(bytes: &[u8], len: usize, room: &mut [u8], n: usize) -> u64
     let counts = Table::counts(table);
     let edges = counts.edges;
     let guards = [1u8; 256];
-    keshmirun::sheet(table, &marking[..m], &guards[..edges], &mut room[..n])
+    keshmirun::sheet(
+        table,
+        &marking[..m],
+        &guards[..edges],
+        &keshmirun::NO_BOUNDS,
+        &mut room[..n],
+    )
 }
 
 // The line of that sheet: of a reply also the number of ends, which stands at 3, and the length.

@@ -9,30 +9,33 @@ use Rattle.paper.specs.Answers.{good}
 use Rattle.paper.specs.Limits.{limits}
 use Rattle.paper.specs.Table.{tableFine}
 use Rattle.paper.specs.Marking.{Marking, marking}
-use Rattle.paper.specs.Offers.{guardsFine, goesOver, offers, ends, sizesFine}
+use Rattle.paper.specs.Offers.{guardsFine, boundsFine, Terms, goesOver, offers, ends, sizesFine}
 use Rattle.paper.specs.Choices.{Board, boardOf, board}
 use Rattle.paper.proofs.Ladders.{same-good, row-good, need-good, known-good}
 
--- of a table, a marking and guards: rows 6 to 8, and what stands on the board
-pub record BoardFacts (t : List ℕ) (m : Marking) (g : List ℕ) (d : Board) : Type 0 where
+-- of a table, a marking and terms: rows 6 to 8 with 18, and what stands on the board
+pub record BoardFacts (t : List ℕ) (m : Marking) (w : Terms) (d : Board) : Type 0 where
   pub live : m .ended ≡ false
-  pub guards-fine : guardsFine t g ≡ true
-  pub sizes-fine : sizesFine t (offers t (goesOver g) m) ≡ true
+  pub guards-fine : guardsFine t (w .guards) ≡ true
+  pub bounds-fine : boundsFine t (w .bounds) ≡ true
+  pub sizes-fine : sizesFine t (offers t (goesOver w) m) ≡ true
   pub is-table : d .table ≡ t
   pub is-current : d .current ≡ m
-  pub is-offers : d .allOffers ≡ offers t (goesOver g) m
-  pub is-ends : d .allEnds ≡ ends t (offers t (goesOver g) m)
+  pub is-offers : d .allOffers ≡ offers t (goesOver w) m
+  pub is-ends : d .allEnds ≡ ends t (offers t (goesOver w) m)
 
-pub board-facts : (t : List ℕ) (m : Marking) (g : List ℕ) (d : Board) → boardOf t m g ≡ good d → BoardFacts t m g d
+pub board-facts : (t : List ℕ) (m : Marking) (w : Terms) (d : Board) → boardOf t m w ≡ good d → BoardFacts t m w d
 unfolding boardOf
-board-facts t m g d h =
+board-facts t m w d h =
     let r6 = need-good 6 (not (m .ended)) _ d h in
-    let r7 = need-good 7 (guardsFine t g) _ d (r6 .1) in
-    let r8 = need-good 8 (sizesFine t (offers t (goesOver g) m)) _ d (r7 .1) in
+    let r7 = need-good 7 (guardsFine t (w .guards)) _ d (r6 .1) in
+    let r18 = need-good 18 (boundsFine t (w .bounds)) _ d (r7 .1) in
+    let r8 = need-good 8 (sizesFine t (offers t (goesOver w) m)) _ d (r18 .1) in
     let e = sym (same-good (r8 .1)) in
     record {
       live = not-true (m .ended) (r6 .0);
       guards-fine = r7 .0;
+      bounds-fine = r18 .0;
       sizes-fine = r8 .0;
       is-table = ap (λ (x : Board). x .table) e;
       is-current = ap (λ (x : Board). x .current) e;
@@ -41,19 +44,19 @@ board-facts t m g d h =
     }
 
 -- of bytes: rows 1 to 8
-pub record GoodBoard (t b g : List ℕ) (d : Board) : Type 0 where
+pub record GoodBoard (t b : List ℕ) (w : Terms) (d : Board) : Type 0 where
   pub table-fine : tableFine t limits ≡ good tt
   pub is-read : marking t b ≡ some (d .current)
-  pub facts : BoardFacts t (d .current) g d
+  pub facts : BoardFacts t (d .current) w d
 
-pub board-good : (t b g : List ℕ) (d : Board) → board t b g ≡ good d → GoodBoard t b g d
+pub board-good : (t b : List ℕ) (w : Terms) (d : Board) → board t b w ≡ good d → GoodBoard t b w d
 unfolding board
-board-good t b g d h =
+board-good t b w d h =
     let r4 = row-good (tableFine t limits) _ d h in
     let r5 = known-good 5 (marking t b) _ d (r4 .2) in
-    let f = board-facts t (r5 .0) g d (r5 .2) in
+    let f = board-facts t (r5 .0) w d (r5 .2) in
     record {
       table-fine = r4 .1;
       is-read = rw (f .is-current) (r5 .1);
-      facts = subst (λ (x : Marking). BoardFacts t x g d) (sym (f .is-current)) f;
+      facts = subst (λ (x : Marking). BoardFacts t x w d) (sym (f .is-current)) f;
     }

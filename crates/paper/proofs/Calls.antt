@@ -9,6 +9,7 @@ use borrow.Author.Tests.{le-leb, lt-leb, leb-true}
 use lib.Dec.{leb}
 use lib.ListN.{length, drop}
 use Rattle.paper.specs.Answers.{Answer, refused, good}
+use Rattle.paper.specs.Offers.{Terms}
 use Rattle.paper.specs.Operations.{check, start, sheet, step, finish, Pick, packed, inRoom, Reply, Leaves, Only}
 use Rattle.paper.proofs.Picks.{pick-unique}
 
@@ -47,27 +48,27 @@ only-one c a b h i = h ∙ sym i
 pub data Call : Type 0 where
   checks : (t : List ℕ) → Call
   starts : (t b : List ℕ) → Call
-  sheets : (t b g : List ℕ) → Call
-  picks : (t b g : List ℕ) (n : ℕ) → Call
-  steps : (t b g ks : List ℕ) → Call
+  sheets : (t b : List ℕ) (w : Terms) → Call
+  picks : (t b : List ℕ) (w : Terms) (n : ℕ) → Call
+  steps : (t b : List ℕ) (w : Terms) (ks : List ℕ) → Call
   finishes : (t b : List ℕ) (a : ℕ) (vs : List ℕ) → Call
 
 -- what its operation's definition allows: what the exported function promises is `Leaves (AllowedBy ..)`
 abbrev pub AllowedBy : Call → Answer (List ℕ) → Type 0
 AllowedBy (checks t) = Only (check t)
 AllowedBy (starts t b) = Only (start t b)
-AllowedBy (sheets t b g) = Only (sheet t b g)
-AllowedBy (picks t b g n) = Pick t b g n
-AllowedBy (steps t b g ks) = Only (step t b g ks)
+AllowedBy (sheets t b w) = Only (sheet t b w)
+AllowedBy (picks t b w n) = Pick t b w n
+AllowedBy (steps t b w ks) = Only (step t b w ks)
 AllowedBy (finishes t b a vs) = Only (finish t b a vs)
 
 -- it is one answer
 pub one-allowed : (c : Call) → OneAllowed (AllowedBy c)
 one-allowed (checks t) = only-one (check t)
 one-allowed (starts t b) = only-one (start t b)
-one-allowed (sheets t b g) = only-one (sheet t b g)
-one-allowed (picks t b g n) = pick-unique t b g n
-one-allowed (steps t b g ks) = only-one (step t b g ks)
+one-allowed (sheets t b w) = only-one (sheet t b w)
+one-allowed (picks t b w n) = pick-unique t b w n
+one-allowed (steps t b w ks) = only-one (step t b w ks)
 one-allowed (finishes t b a vs) = only-one (finish t b a vs)
 
 -- ---- so two calls that lend the same leave the same (whatever they lend: `SameAnswer`)
@@ -83,14 +84,14 @@ check-unique t = same-answer (checks t)
 pub start-unique : (t b : List ℕ) → OneCall (Only (start t b))
 start-unique t b = same-answer (starts t b)
 
-pub sheet-unique : (t b g : List ℕ) → OneCall (Only (sheet t b g))
-sheet-unique t b g = same-answer (sheets t b g)
+pub sheet-unique : (t b : List ℕ) (w : Terms) → OneCall (Only (sheet t b w))
+sheet-unique t b w = same-answer (sheets t b w)
 
-pub pick-call-unique : (t b g : List ℕ) (n : ℕ) → OneCall (Pick t b g n)
-pick-call-unique t b g n = same-answer (picks t b g n)
+pub pick-call-unique : (t b : List ℕ) (w : Terms) (n : ℕ) → OneCall (Pick t b w n)
+pick-call-unique t b w n = same-answer (picks t b w n)
 
-pub step-unique : (t b g ks : List ℕ) → OneCall (Only (step t b g ks))
-step-unique t b g ks = same-answer (steps t b g ks)
+pub step-unique : (t b : List ℕ) (w : Terms) (ks : List ℕ) → OneCall (Only (step t b w ks))
+step-unique t b w ks = same-answer (steps t b w ks)
 
 pub finish-unique : (t b : List ℕ) (a : ℕ) (vs : List ℕ) → OneCall (Only (finish t b a vs))
 finish-unique t b a vs = same-answer (finishes t b a vs)

@@ -69,6 +69,10 @@ module _ {A : Type 0} (p : A → Bool) where
   any-same q h [] = refl
   any-same q h (x ∷ xs) = rw (h x, any-same q h xs)
 
+  pub all-same : (q : A → Bool) → ((x : A) → p x ≡ q x) → (xs : List A) → all p xs ≡ all q xs
+  all-same q h [] = refl
+  all-same q h (x ∷ xs) = rw (h x, all-same q h xs)
+
   -- what holds of every member goes in front
   pub any-and : (b : Bool) (xs : List A) → b && any p xs ≡ any (λ x. b && p x) xs
   any-and b [] = and-false b

@@ -9,13 +9,10 @@ use borrow.Author.Tests.{le-leb, lt-leb}
 use lib.ListN.{length, drop, length-drop, drop-of-length-le}
 use lib.Seq.{drop-cons}
 use Rattle.paper.specs.Lists.{at}
-use Rattle.paper.specs.Bytes.{byte, upTo, word, times, valuesRead}
+use Rattle.paper.specs.Bytes.{byte, upTo, word, wordAt, times, valuesRead}
 use Rattle.paper.proofs.Lengths.{drop-four}
 
--- the value in the four bytes from a place on, and n values
-abbrev pub wordAt : List ℕ → ℕ → ℕ
-wordAt b from = ((at b from * 256 + at b (from + 1)) * 256 + at b (from + 2)) * 256 + at b (from + 3)
-
+-- the n values in the bytes from a place on
 abbrev pub wordsAt : List ℕ → ℕ → ℕ → List ℕ
 wordsAt b from zero = []
 wordsAt b from (suc n) = wordAt b from ∷ wordsAt b (from + 4) n

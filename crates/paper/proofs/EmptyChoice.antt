@@ -13,6 +13,7 @@ use Rattle.paper.specs.Lists.{has, below, any, _⇒_}
 use Rattle.paper.specs.Answers.{Answer, refused, good, judgedBy}
 use Rattle.paper.specs.Table.{nodes, kind, upper, out, isFork, isAction, isBuffer, isOutgoing, isObjectNode}
 use Rattle.paper.specs.Marking.{Marking, Field, stockOf, runsOf, tokensOf, encode}
+use Rattle.paper.specs.Offers.{Terms}
 use Rattle.paper.specs.Choices.{Board, board, howMany, taken, takenEnds, arrivals, takenMakers, rule1, passedWhole, rule2, actionAgrees, agrees, rule3, rules, acceptable, spent, spend, gain, close, next}
 use Rattle.paper.specs.Operations.{PickIf, Pick, stepOf, step}
 use Rattle.paper.proofs.Bools.{never, and-never}
@@ -76,32 +77,32 @@ module _ (d : Board) where
     empty-acceptable = rw empty-judged
 
 -- no stock on a board is over upper
-board-room : {t b g : List ℕ} {d : Board} → GoodBoard t b g d → (n : ℕ) → length (d .current .stock n) ≤ upper (d .table) n
+board-room : {t b : List ℕ} {w : Terms} {d : Board} → GoodBoard t b w d → (n : ℕ) → length (d .current .stock n) ≤ upper (d .table) n
 board-room {t} {b} {d = d} f n = rw (f .facts .is-table) (read-room t b (d .current) (f .is-read) n)
 
 -- the empty choice is acceptable on every board
-pub empty-fine : (t b g : List ℕ) → EmptyFine (board t b g)
-empty-fine t b g = by (board t b g) refl
+pub empty-fine : (t b : List ℕ) (w : Terms) → EmptyFine (board t b w)
+empty-fine t b w = by (board t b w) refl
   where
-    by : (r : Answer Board) → board t b g ≡ r → EmptyFine r
+    by : (r : Answer Board) → board t b w ≡ r → EmptyFine r
     by (refused k p) e = tt
-    by (good d) e = empty-acceptable d (board-room (board-good t b g d e))
+    by (good d) e = empty-acceptable d (board-room (board-good t b w d e))
 
 -- ---- pick
 -- the search meets the relation, so there always is an answer
-pub picks : (t b g : List ℕ) (n : ℕ) → Pick t b g n (searched t b g n)
-picks t b g n = searched-picks t b g n (empty-fine t b g)
+pub picks : (t b : List ℕ) (w : Terms) (n : ℕ) → Pick t b w n (searched t b w n)
+picks t b w n = searched-picks t b w n (empty-fine t b w)
 
 -- on a board, pick is never refused where no node is named
-pub unnamed-never-13 : (t b g : List ℕ) (d : Board) → board t b g ≡ good d → (k p : ℕ) → Pick t b g 255 (refused k p) → ⊥
+pub unnamed-never-13 : (t b : List ℕ) (w : Terms) (d : Board) → board t b w ≡ good d → (k p : ℕ) → Pick t b w 255 (refused k p) → ⊥
 unfolding Pick
-unnamed-never-13 t b g d e k p h = let r : PickIf (good d) 255 (refused k p) = rw e at h in never false (r .2 .is-named) refl
+unnamed-never-13 t b w d e k p h = let r : PickIf (good d) 255 (refused k p) = rw e at h in never false (r .2 .is-named) refl
 
-pub unnamed-picks : (t b g : List ℕ) (d : Board) → board t b g ≡ good d → (ks : List ℕ) × Pick t b g 255 (good ks)
-unnamed-picks t b g d e = by (searched t b g 255) (picks t b g 255)
+pub unnamed-picks : (t b : List ℕ) (w : Terms) (d : Board) → board t b w ≡ good d → (ks : List ℕ) × Pick t b w 255 (good ks)
+unnamed-picks t b w d e = by (searched t b w 255) (picks t b w 255)
   where
-    by : (a : Answer (List ℕ)) → Pick t b g 255 a → (ks : List ℕ) × Pick t b g 255 (good ks)
-    by (refused k p) h = absurd (unnamed-never-13 t b g d e k p h)
+    by : (a : Answer (List ℕ)) → Pick t b w 255 a → (ks : List ℕ) × Pick t b w 255 (good ks)
+    by (refused k p) h = absurd (unnamed-never-13 t b w d e k p h)
     by (good ks) h = (ks, h)
 
 -- ---- step
@@ -139,12 +140,12 @@ module _ (d : Board) where
   next-same = none-close (gain d 0 (spend d 0 (d .current))) ∙ none-moved
 
 -- a step that takes nothing: the reply is the encoding of the next marking, and that is the marking as it was
-pub step-takes-nothing : (t b g : List ℕ) (d : Board) → board t b g ≡ good d → (step t b g [] ≡ good (encode t (next d 0))) × (next d 0 ≡ d .current)
+pub step-takes-nothing : (t b : List ℕ) (w : Terms) (d : Board) → board t b w ≡ good d → (step t b w [] ≡ good (encode t (next d 0))) × (next d 0 ≡ d .current)
 unfolding step stepOf
-step-takes-nothing t b g d e = (rw (e, empty-judged d (board-room (board-good t b g d e))), next-same d)
+step-takes-nothing t b w d e = (rw (e, empty-judged d (board-room (board-good t b w d e))), next-same d)
 
 -- and so the bytes given come back
-pub step-same : (t b g : List ℕ) (d : Board) → Bytes b → board t b g ≡ good d → step t b g [] ≡ good b
-step-same t b g d u e =
-    let s = step-takes-nothing t b g d e in
-    s .0 ∙ ap (λ (m : Marking). good (encode t m)) (s .1) ∙ ap good (read-is-good t b (d .current) u (board-good t b g d e .is-read) .1)
+pub step-same : (t b : List ℕ) (w : Terms) (d : Board) → Bytes b → board t b w ≡ good d → step t b w [] ≡ good b
+step-same t b w d u e =
+    let s = step-takes-nothing t b w d e in
+    s .0 ∙ ap (λ (m : Marking). good (encode t m)) (s .1) ∙ ap good (read-is-good t b (d .current) u (board-good t b w d e .is-read) .1)

@@ -6,6 +6,7 @@ use native.Mathlib.Omega.{arith}
 use mathlib.Core.List.{List, _++_}
 use lib.ListN.{length, drop}
 use Rattle.paper.specs.Answers.{Answer, refused, good}
+use Rattle.paper.specs.Offers.{Terms}
 use Rattle.paper.specs.Operations.{step, Leaves}
 use Rattle.paper.proofs.Bytes.{Bytes}
 use Rattle.paper.proofs.OneMarking.{encode-fits}
@@ -18,33 +19,33 @@ use Rattle.paper.proofs.OneWord.{replies-most, shown, same-shown}
 abbrev pub roomNeeded : Call → ℕ
 roomNeeded (checks t) = 0
 roomNeeded (starts t b) = 4096
-roomNeeded (sheets t b g) = 4096
-roomNeeded (picks t b g n) = 20
-roomNeeded (steps t b g ks) = 4096
+roomNeeded (sheets t b w) = 4096
+roomNeeded (picks t b w n) = 20
+roomNeeded (steps t b w ks) = 4096
 roomNeeded (finishes t b a vs) = 4096
 
 abbrev pub BytesLent : Call → Type 0
 BytesLent (checks t) = Unit {0}
 BytesLent (starts t b) = Unit {0}
-BytesLent (sheets t b g) = Unit {0}
-BytesLent (picks t b g n) = Unit {0}
-BytesLent (steps t b g ks) = Bytes b
+BytesLent (sheets t b w) = Unit {0}
+BytesLent (picks t b w n) = Unit {0}
+BytesLent (steps t b w ks) = Bytes b
 BytesLent (finishes t b a vs) = Unit {0}
 
-step-most : (t b g ks : List ℕ) → Bytes b → (a : Answer (List ℕ)) → a ≡ step t b g ks → length (replyOf a) ≤ 4096
-step-most t b g ks u (refused k p) h = omega arith
-step-most t b g ks u (good out) h =
-    let r = step-meant t b g ks out u (sym h) in
-    let f = board-good t b g (r .0) (r .2) .table-fine in
+step-most : (t b : List ℕ) (w : Terms) (ks : List ℕ) → Bytes b → (a : Answer (List ℕ)) → a ≡ step t b w ks → length (replyOf a) ≤ 4096
+step-most t b w ks u (refused k p) h = omega arith
+step-most t b w ks u (good out) h =
+    let r = step-meant t b w ks out u (sym h) in
+    let f = board-good t b w (r .0) (r .2) .table-fine in
     subst (λ (x : List ℕ). length x ≤ 4096) (r .4 .written) (encode-fits t (r .1) f (r .4 .is-good))
 
 -- every reply fits
 pub reply-fits : (c : Call) → BytesLent c → (a : Answer (List ℕ)) → AllowedBy c a → length (replyOf a) ≤ roomNeeded c
 reply-fits (checks t) u a h = replies-most (checks t) a h
 reply-fits (starts t b) u a h = replies-most (starts t b) a h
-reply-fits (sheets t b g) u a h = omega (arith, replies-most (sheets t b g) a h)
-reply-fits (picks t b g n) u a h = replies-most (picks t b g n) a h
-reply-fits (steps t b g ks) u a h = step-most t b g ks u a h
+reply-fits (sheets t b w) u a h = omega (arith, replies-most (sheets t b w) a h)
+reply-fits (picks t b w n) u a h = replies-most (picks t b w n) a h
+reply-fits (steps t b w ks) u a h = step-most t b w ks u a h
 reply-fits (finishes t b x vs) u a h = replies-most (finishes t b x vs) a h
 
 -- so 17 never comes: the word is the answer's own, and the reply stands at the front

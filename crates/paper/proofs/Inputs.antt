@@ -14,7 +14,7 @@ use Rattle.paper.specs.Answers.{good}
 use Rattle.paper.specs.Table.{edges}
 use Rattle.paper.specs.Offers.{guardsFine}
 use Rattle.paper.specs.Choices.{Board, board}
-use Rattle.paper.specs.Program.{mostInput, readOf, partLength, part, behind, tablePart, markingPart, guardsPart, text, Prints, PrintsFor}
+use Rattle.paper.specs.Program.{mostInput, readOf, partLength, part, behind, tablePart, markingPart, guardsPart, termsPart, text, Prints, PrintsFor}
 use Rattle.paper.proofs.Bools.{and-true}
 use Rattle.paper.proofs.Bounds.{under-left, under-drop}
 use Rattle.paper.proofs.Bytes.{Bytes}
@@ -35,16 +35,16 @@ unfolding guardsFine
 guards-length t g h = eqb-true _ _ (and-true (eqb (length g) (edges t)) _ h .0)
 
 -- 453 bytes of table, 4,096 of marking and 64 of guards at most
-pub input-fits : (s : List ℕ) (d : Board) → Bytes s → board (tablePart s) (markingPart s) (guardsPart s) ≡ good d → length s ≤ mostInput
+pub input-fits : (s : List ℕ) (d : Board) → Bytes s → board (tablePart s) (markingPart s) (termsPart s) ≡ good d → length s ≤ mostInput
 input-fits s d u h =
-    let f = board-good (tablePart s) (markingPart s) (guardsPart s) d h in
+    let f = board-good (tablePart s) (markingPart s) (termsPart s) d h in
     let r = table-good (tablePart s) limits (f .table-fine) .frame in
     let q = read-is-good (tablePart s) (markingPart s) (d .current) (part-bytes (behind s) (under-drop 256 s (partLength s) u)) (f .is-read) in
     let m : length (markingPart s) ≤ 4096 = subst (λ (b : List ℕ). length b ≤ 4096) (q .1) (encode-fits (tablePart s) (d .current) (f .table-fine) (q .0)) in
     omega (arith, part-length s, part-length (behind s), guards-length (tablePart s) (guardsPart s) (f .facts .guards-fine))
 
 -- a good input is read whole
-pub read-whole : (input : List ℕ) (d : Board) → Bytes input → board (tablePart input) (markingPart input) (guardsPart input) ≡ good d → readOf input ≡ input
+pub read-whole : (input : List ℕ) (d : Board) → Bytes input → board (tablePart input) (markingPart input) (termsPart input) ≡ good d → readOf input ≡ input
 read-whole input d u h = take-all mostInput input (input-fits input d u h)
 
 -- ---- what is printed for an input is what is printed for its first 8,192 bytes
@@ -61,7 +61,7 @@ prints-for-more input more written l p = subst (λ (s : List ℕ). Prints s writ
 pub prints-unique : (s a b : List ℕ) → Prints s a → Prints s b → a ≡ b
 prints-unique s a b p q =
     p .is-text
-    ∙ ap (text (board (tablePart s) (markingPart s) (guardsPart s))) (pick-unique (tablePart s) (markingPart s) (guardsPart s) 255 (p .picked) (q .picked) (p .allowed) (q .allowed))
+    ∙ ap (text (board (tablePart s) (markingPart s) (termsPart s))) (pick-unique (tablePart s) (markingPart s) (termsPart s) 255 (p .picked) (q .picked) (p .allowed) (q .allowed))
     ∙ sym (q .is-text)
 
 pub prints-for-unique : (input a b : List ℕ) → PrintsFor input a → PrintsFor input b → a ≡ b

@@ -30,6 +30,8 @@ pub mod Digits
 pub mod Bits
 pub mod Choices
 pub mod Search
+pub mod BoundsLists
+pub mod BeforeBounds
 pub mod Boards
 pub mod Sizes
 pub mod Picks

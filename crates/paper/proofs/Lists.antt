@@ -8,7 +8,7 @@ use mathlib.Core.Bool.{Bool, true, false, cond}
 use mathlib.Core.Logic.{⊎-elim}
 use mathlib.Core.List.{List, [], _∷_, _++_}
 use mathlib.Core.Option.{Option, none, some}
-use Rattle.paper.specs.Lists.{from, below, find, all, lowest, keep}
+use Rattle.paper.specs.Lists.{from, below, find, all, lowest, keep, each}
 use Rattle.paper.proofs.Bools.{never, false-if}
 use Rattle.paper.proofs.Members.{in-all, all-in, in-below, below-in}
 
@@ -101,6 +101,16 @@ from-same p q (suc n) i h =
 
 pub keep-same : (p q : ℕ → Bool) (n : ℕ) → ((k : ℕ) → k < n → p k ≡ q k) → keep p (below n) ≡ keep q (below n)
 keep-same p q n h = from-same p q n 0 (λ k a b. h k (omega arith))
+
+-- ---- what is kept of images are the images of what is kept
+pub keep-each : {A B : Type 0} (p : B → Bool) (f : A → B) (xs : List A) → keep p (each f xs) ≡ each f (keep (λ x. p (f x)) xs)
+keep-each p f [] = refl
+keep-each p f (x ∷ xs) = by (p (f x)) (keep-each p f xs)
+  where
+    by : (b : Bool) → keep p (each f xs) ≡ each f (keep (λ x. p (f x)) xs)
+        → cond b (f x ∷ keep p (each f xs)) (keep p (each f xs)) ≡ each f (cond b (x ∷ keep (λ x. p (f x)) xs) (keep (λ x. p (f x)) xs))
+    by true e = ap (λ z. f x ∷ z) e
+    by false e = e
 
 -- ---- lists one behind the other
 pub keep-append : {A : Type 0} (p : A → Bool) (xs ys : List A) → keep p (xs ++ ys) ≡ keep p xs ++ keep p ys

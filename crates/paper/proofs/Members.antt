@@ -55,6 +55,11 @@ module _ {A : Type 0} where
       by true k = later k
       by false k = k
 
+  -- tests that agree on all members keep the same
+  pub keep-alike : (p q : A → Bool) (xs : List A) → ((x : A) → In x xs → p x ≡ q x) → keep p xs ≡ keep q xs
+  keep-alike p q [] h = refl
+  keep-alike p q (x ∷ xs) h = ap₂ (λ (c : Bool) (l : List A). cond c (x ∷ l) l) (h x (here refl)) (keep-alike p q xs (λ y m. h y (later m)))
+
   pub keep-none : (p : A → Bool) (xs : List A) → ((x : A) → In x xs → p x ≡ false) → keep p xs ≡ []
   keep-none p [] h = refl
   keep-none p (x ∷ xs) h = rw (h x (here refl)) (keep-none p xs (λ y m. h y (later m)))

@@ -11,7 +11,7 @@ use Rattle.paper.specs.Lists.{any, _⇒_}
 use Rattle.paper.specs.Limits.{limits}
 use Rattle.paper.specs.Answers.{Answer, refused, good}
 use Rattle.paper.specs.Table.{nodes, kind, owner, isDecision, isPin, isControlNode, oneOf, isObject, mayEnter}
-use Rattle.paper.specs.Offers.{Offer, lastEdge, goesOver, offers, isEnd, targetOf, belongs}
+use Rattle.paper.specs.Offers.{Offer, lastEdge, Terms, goesOver, offers, isEnd, targetOf, belongs}
 use Rattle.paper.specs.Choices.{Board, board, takenEnds, acceptable}
 use Rattle.paper.specs.Operations.{named, wanted, PickOn, PickIf, Pick}
 use Rattle.paper.proofs.Bools.{never, and-true, and-both, and-never, or-true, if-true, false-if}
@@ -40,9 +40,9 @@ entered b k l h c = if-true (mayEnter b k && not (isControlNode k)) _ (by b) (an
     by true = all-below (λ k. mayEnter true k && not (isControlNode k) ⇒ endKind k) 14 refl k (omega arith)
     by false = all-below (λ k. mayEnter false k && not (isControlNode k) ⇒ endKind k) 14 refl k (omega arith)
 
-module _ (t b g : List ℕ) (d : Board) (h : board t b g ≡ good d) where
-  abbrev facts : GoodBoard t b g d
-  facts = board-good t b g d h
+module _ (t b : List ℕ) (w : Terms) (d : Board) (h : board t b w ≡ good d) where
+  abbrev facts : GoodBoard t b w d
+  facts = board-good t b w d h
 
   abbrev fine : GoodTable t limits
   fine = table-good t limits (facts .table-fine)
@@ -51,9 +51,9 @@ module _ (t b g : List ℕ) (d : Board) (h : board t b g ≡ good d) where
   belongs-there : (n : ℕ) (o : Offer) → In o (d .allEnds) → belongs t n o ≡ true → canHaveEnd t n ≡ true
   unfolding belongs isEnd
   belongs-there n o k y =
-      let r = in-ends t (offers t (goesOver g) (d .current)) (subst (λ (os : List Offer). In o os) (facts .facts .is-ends) k) in
-      let s = in-offers t (goesOver g) (d .current) (r .0) in
-      let e : lastEdge o ≡ s .0 = on-last t (goesOver g) (d .current) (limits .longestPath) (s .0) (s .2) in
+      let r = in-ends t (offers t (goesOver w) (d .current)) (subst (λ (os : List Offer). In o os) (facts .facts .is-ends) k) in
+      let s = in-offers t (goesOver w) (d .current) (r .0) in
+      let e : lastEdge o ≡ s .0 = on-last t (goesOver w) (d .current) (limits .longestPath) (s .0) (s .2) in
       let f = fine .edge (lastEdge o) (omega (arith, s .1)) in
       let p = fine .node (targetOf t o) (f .target-fits) in
       ⊎-elim
@@ -78,14 +78,14 @@ module _ (t b g : List ℕ) (d : Board) (h : board t b g ≡ good d) where
     on-13 q (good ks) r = never (wanted d n (r .0)) (r .1 .passes) (none-wanted q (r .0))
 
     -- a named node to which no end can belong
-    pub pick-13 : canHaveEnd t n ≡ false → (a : Answer (List ℕ)) → Pick t b g n a → a ≡ refused 13 n
+    pub pick-13 : canHaveEnd t n ≡ false → (a : Answer (List ℕ)) → Pick t b w n a → a ≡ refused 13 n
     unfolding Pick
     pick-13 q a r = let s : PickIf (good d) n a = rw h at r in on-13 q a s
 
     -- "that doesn't exist"
-    pub pick-no-node : nodes t ≤ n → (a : Answer (List ℕ)) → Pick t b g n a → a ≡ refused 13 n
+    pub pick-no-node : nodes t ≤ n → (a : Answer (List ℕ)) → Pick t b w n a → a ≡ refused 13 n
     pick-no-node l = pick-13 (rw (le-ltb n (nodes t) l))
 
     -- "or is a decision"
-    pub pick-decision : isDecision (kind t n) ≡ true → (a : Answer (List ℕ)) → Pick t b g n a → a ≡ refused 13 n
+    pub pick-decision : isDecision (kind t n) ≡ true → (a : Answer (List ℕ)) → Pick t b w n a → a ≡ refused 13 n
     pick-decision e = pick-13 (ap (λ (b : Bool). ltb n (nodes t) && b) (ap endKind (eqb-true (kind t n) 8 e)) ∙ and-never (ltb n (nodes t)))

@@ -1,4 +1,4 @@
--- The word is one to one: whatever an operation answers, its number is at most 17 and 0 exactly if nothing is refused, its place is below 256 and its reply below
+-- The word is one to one: whatever an operation answers, its number is at most 18 and 0 exactly if nothing is refused, its place is below 256 and its reply below
 -- 2^32 bytes, so the word gives each of the three back. Assumes of pick that the node asked for is a byte (row 13's place is that node); of the others nothing.
 use mathlib.Core.Path.{_≡_, refl, sym, ap, _∙_}
 use Prim.Native.Nat.{ℕ, _/_, _%_, _^_, _≤_, _<_}
@@ -15,7 +15,7 @@ use Rattle.paper.specs.Limits.{limits}
 use Rattle.paper.specs.Answers.{Answer, refused, good, _>>=_, need, known, judgedBy, isGood}
 use Rattle.paper.specs.Table.{nodes, edges, kind, upper, source, out, outputs, isInitial, isAction, isIncoming, isOutgoing, isObjectNode, isActivityFinal, frameFine, nodeFine, edgeFine, shapeFine, tableFine}
 use Rattle.paper.specs.Marking.{Marking, blank, encode, marking, hasTokens, endedOf}
-use Rattle.paper.specs.Offers.{value, guardsFine, goesOver, offers, sizesFine, targetOf}
+use Rattle.paper.specs.Offers.{value, guardsFine, boundsFine, Terms, goesOver, offers, sizesFine, targetOf}
 use Rattle.paper.specs.Choices.{Board, boardOf, board, howMany, end, taken, takenEnds, arrivals, rule1, rule2, rule3, rules, spent, spend, gain, close, next}
 use Rattle.paper.specs.Operations.{check, valueLists, given, roomIn, startOf, start, sheet, PickIf, Pick, rising, choiceOf, stepOf, step, idled, finishOf, finish, packed, inRoom, Reply, Leaves}
 use Rattle.paper.proofs.Bools.{and-true, true-or-false, either-way}
@@ -32,7 +32,7 @@ use Rattle.paper.proofs.SameAnswer.{numberOf, placeOf, replyOf, wordOf,
 
 -- ---- ladders: every refusal has the number of a row and a small place, and of what passes P holds
 abbrev IsRow : ℕ → Type 0
-IsRow n = (1 ≤ n) × (n ≤ 17)
+IsRow n = (1 ≤ n) × (n ≤ 18)
 
 abbrev Rows : {A : Type 0} → (A → Type 0) → Answer A → Type 0
 Rows P (refused n p) = IsRow n × (p < 256)
@@ -86,25 +86,26 @@ table-rows t = ⊎-elim framed (λ e. rw e ((omega arith, omega arith), omega ar
         (seen (lowest (λ i. not (nodeFine t limits i)) (nodes t)))
 
 -- ---- rows 5 to 8
-board-rows : (t b g : List ℕ) → Rows Passed (board t b g)
+board-rows : (t b : List ℕ) (w : Terms) → Rows Passed (board t b w)
 unfolding board boardOf
-board-rows t b g =
+board-rows t b w =
     rows-then Passed Passed (tableFine t limits) _ (table-rows t)
     (λ u e x. rows-then (λ m. marking t b ≡ some m) Passed (known 5 (marking t b)) _ (known-rows 5 (marking t b) (omega arith, omega arith))
     (λ m e x. rows-then _ Passed (need 6 (not (m .ended))) _ (need-rows 6 (not (m .ended)) (omega arith, omega arith))
-    (λ u e x. rows-then _ Passed (need 7 (guardsFine t g)) _ (need-rows 7 (guardsFine t g) (omega arith, omega arith))
-    (λ u e x. rows-then _ Passed (need 8 (sizesFine t (offers t (goesOver g) m))) _ (need-rows 8 (sizesFine t (offers t (goesOver g) m)) (omega arith, omega arith)) (λ u e x. tt)))))
+    (λ u e x. rows-then _ Passed (need 7 (guardsFine t (w .guards))) _ (need-rows 7 (guardsFine t (w .guards)) (omega arith, omega arith))
+    (λ u e x. rows-then _ Passed (need 18 (boundsFine t (w .bounds))) _ (need-rows 18 (boundsFine t (w .bounds)) (omega arith, omega arith))
+    (λ u e x. rows-then _ Passed (need 8 (sizesFine t (offers t (goesOver w) m))) _ (need-rows 8 (sizesFine t (offers t (goesOver w) m)) (omega arith, omega arith)) (λ u e x. tt))))))
 
 -- ---- rows 10 to 12
-module _ (t b g : List ℕ) (d : Board) (h : board t b g ≡ good d) where
+module _ (t b : List ℕ) (w : Terms) (d : Board) (h : board t b w ≡ good d) where
   few-nodes : nodes (d .table) ≤ 48
-  few-nodes = let f = board-good t b g d h in rw (f .facts .is-table) (table-good t limits (f .table-fine) .frame .nodes-fit)
+  few-nodes = let f = board-good t b w d h in rw (f .facts .is-table) (table-good t limits (f .table-fine) .frame .nodes-fit)
 
   rule1-place : (c p : ℕ) → rule1 d c ≡ some p → p < 256
   unfolding rule1 taken
   rule1-place c p e =
       let i = in-keep (has c) (below (howMany d)) (find-in _ (taken d c) p e) in
-      omega (arith, in-below (howMany d) (i .0), few-ends t b g d h)
+      omega (arith, in-below (howMany d) (i .0), few-ends t b w d h)
 
   rule2-place : (c p : ℕ) → rule2 d c ≡ some p → p < 256
   unfolding rule2
@@ -181,10 +182,10 @@ finish-rows t b a vs =
     (λ m e x. rows-then (Most 16 t) (UpTo 4096) (finishOf t m a vs) _ (finishOf-rows t m a vs f) (λ m′ e r. written-16 t m′ f r)))
 
 -- ---- step: a stock of 16 at most, and 20 ends at most
-module _ (t b g : List ℕ) (d : Board) (h : board t b g ≡ good d) (c : ℕ) where
+module _ (t b : List ℕ) (w : Terms) (d : Board) (h : board t b w ≡ good d) (c : ℕ) where
   few-taken : length (takenEnds d c) ≤ 20
   unfolding takenEnds
-  few-taken = omega (arith, length-each (end d) (taken d c), choice-most t b g d h c)
+  few-taken = omega (arith, length-each (end d) (taken d c), choice-most t b w d h c)
 
   few-come : (i : ℕ) → length (gather (λ o. single (value o)) (arrivals d c i)) ≤ 20
   unfolding arrivals
@@ -194,7 +195,7 @@ module _ (t b g : List ℕ) (d : Board) (h : board t b g ≡ good d) (c : ℕ) w
   moved-most : Most 36 t (gain d c (spend d c (d .current)))
   unfolding gain spend
   moved-most i l =
-      let f = board-good t b g d h in
+      let f = board-good t b w d h in
       let r = read-room t b (d .current) (f .is-read) i in
       let u = upper-fits (table-good t limits (f .table-fine) .node i l) in
       let s = d .current .stock i in
@@ -214,27 +215,27 @@ module _ (t b g : List ℕ) (d : Board) (h : board t b g ≡ good d) (c : ℕ) w
       let m = gain d c (spend d c (d .current)) in
       either-way (Most 36 t) (any (λ o. isActivityFinal (kind (d .table) (targetOf (d .table) o))) (takenEnds d c)) (endedOf (d .table) m) m (ended-most m moved-most) moved-most
 
-step-rows : (t b g ks : List ℕ) → Rows (UpTo 8192) (step t b g ks)
+step-rows : (t b : List ℕ) (w : Terms) (ks : List ℕ) → Rows (UpTo 8192) (step t b w ks)
 unfolding step stepOf
-step-rows t b g ks =
-    rows-then Passed (UpTo 8192) (board t b g) _ (board-rows t b g)
+step-rows t b w ks =
+    rows-then Passed (UpTo 8192) (board t b w) _ (board-rows t b w)
     (λ d e x. rows-then (Most 36 t) (UpTo 8192) (stepOf d ks) _
     (rows-then _ (Most 36 t) (need 9 (rising ks && all (λ k. ltb k (howMany d)) ks)) _ (need-rows 9 (rising ks && all (λ k. ltb k (howMany d)) ks) (omega arith, omega arith))
-    (λ u q x. rows-then Passed (Most 36 t) (judgedBy (rules d) (choiceOf ks)) _ (judged-rows t b g d e (choiceOf ks)) (λ u q x. next-most t b g d e (choiceOf ks))))
-    (λ m q r. written-36 t m (board-good t b g d e .table-fine) r))
+    (λ u q x. rows-then Passed (Most 36 t) (judgedBy (rules d) (choiceOf ks)) _ (judged-rows t b w d e (choiceOf ks)) (λ u q x. next-most t b w d e (choiceOf ks))))
+    (λ m q r. written-36 t m (board-good t b w d e .table-fine) r))
 
 -- ---- check, sheet and pick
 check-rows : (t : List ℕ) → Rows (UpTo 0) (check t)
 unfolding check
 check-rows t = rows-then Passed (UpTo 0) (tableFine t limits) _ (table-rows t) (λ u e x. omega arith)
 
-sheet-rows : (t b g : List ℕ) → Rows (UpTo 2864) (sheet t b g)
+sheet-rows : (t b : List ℕ) (w : Terms) → Rows (UpTo 2864) (sheet t b w)
 unfolding sheet
-sheet-rows t b g = rows-then Passed (UpTo 2864) (board t b g) _ (board-rows t b g) (λ d e x. sheet-most t b g d e)
+sheet-rows t b w = rows-then Passed (UpTo 2864) (board t b w) _ (board-rows t b w) (λ d e x. sheet-most t b w d e)
 
-pick-rows : (t b g : List ℕ) (n : ℕ) → n < 256 → (a : Answer (List ℕ)) → Pick t b g n a → Rows Passed a
+pick-rows : (t b : List ℕ) (w : Terms) (n : ℕ) → n < 256 → (a : Answer (List ℕ)) → Pick t b w n a → Rows Passed a
 unfolding Pick
-pick-rows t b g n l = by (board t b g) (board-rows t b g)
+pick-rows t b w n l = by (board t b w) (board-rows t b w)
   where
     by : (r : Answer Board) → Rows Passed r → (a : Answer (List ℕ)) → PickIf r n a → Rows Passed a
     by (refused k p) s a h = rw h s
@@ -242,23 +243,23 @@ pick-rows t b g n l = by (board t b g) (board-rows t b g)
     by (good d) s (good ks) h = tt
 
 -- whatever number is lent
-pick-most : (t b g : List ℕ) (n : ℕ) (a : Answer (List ℕ)) → Pick t b g n a → UpTo 20 (replyOf a)
+pick-most : (t b : List ℕ) (w : Terms) (n : ℕ) (a : Answer (List ℕ)) → Pick t b w n a → UpTo 20 (replyOf a)
 unfolding Pick
-pick-most t b g n = by (board t b g) refl
+pick-most t b w n = by (board t b w) refl
   where
-    by : (r : Answer Board) → board t b g ≡ r → (a : Answer (List ℕ)) → PickIf r n a → UpTo 20 (replyOf a)
+    by : (r : Answer Board) → board t b w ≡ r → (a : Answer (List ℕ)) → PickIf r n a → UpTo 20 (replyOf a)
     by (refused k p) e a h = rw h (omega arith)
     by (good d) e (refused k p) h = omega arith
-    by (good d) e (good ks) h = omega (arith, ap length (h .2), choice-most t b g d e (h .0))
+    by (good d) e (good ks) h = omega (arith, ap length (h .2), choice-most t b w d e (h .0))
 
 -- ---- how long a reply is, of any call
 -- a step's is 4,096 at most where what is lent are bytes: `EnoughRoom`
 abbrev pub mostReply : Call → ℕ
 mostReply (checks t) = 0
 mostReply (starts t b) = 4096
-mostReply (sheets t b g) = 2864
-mostReply (picks t b g n) = 20
-mostReply (steps t b g ks) = 8192
+mostReply (sheets t b w) = 2864
+mostReply (picks t b w n) = 20
+mostReply (steps t b w ks) = 8192
 mostReply (finishes t b a vs) = 4096
 
 rows-reply : (n : ℕ) (a : Answer (List ℕ)) → Rows (UpTo n) a → UpTo n (replyOf a)
@@ -268,17 +269,17 @@ rows-reply n (good b) h = h
 pub replies-most : (c : Call) (a : Answer (List ℕ)) → AllowedBy c a → length (replyOf a) ≤ mostReply c
 replies-most (checks t) a h = rw h (rows-reply 0 (check t) (check-rows t))
 replies-most (starts t b) a h = rw h (rows-reply 4096 (start t b) (start-rows t b))
-replies-most (sheets t b g) a h = rw h (rows-reply 2864 (sheet t b g) (sheet-rows t b g))
-replies-most (picks t b g n) a h = pick-most t b g n a h
-replies-most (steps t b g ks) a h = rw h (rows-reply 8192 (step t b g ks) (step-rows t b g ks))
+replies-most (sheets t b w) a h = rw h (rows-reply 2864 (sheet t b w) (sheet-rows t b w))
+replies-most (picks t b w n) a h = pick-most t b w n a h
+replies-most (steps t b w ks) a h = rw h (rows-reply 8192 (step t b w ks) (step-rows t b w ks))
 replies-most (finishes t b x vs) a h = rw h (rows-reply 4096 (finish t b x vs) (finish-rows t b x vs))
 
 most-short : (c : Call) → mostReply c < 2 ^ 32
 most-short (checks t) = omega arith
 most-short (starts t b) = omega arith
-most-short (sheets t b g) = omega arith
-most-short (picks t b g n) = omega arith
-most-short (steps t b g ks) = omega arith
+most-short (sheets t b w) = omega arith
+most-short (picks t b w n) = omega arith
+most-short (steps t b w ks) = omega arith
 most-short (finishes t b a vs) = omega arith
 
 -- the word has room for its length
@@ -290,14 +291,14 @@ replies-short c a h = omega (arith, replies-most c a h, most-short c)
 abbrev pub ByteNode : Call → Type 0
 ByteNode (checks t) = Unit {0}
 ByteNode (starts t b) = Unit {0}
-ByteNode (sheets t b g) = Unit {0}
-ByteNode (picks t b g n) = n < 256
-ByteNode (steps t b g ks) = Unit {0}
+ByteNode (sheets t b w) = Unit {0}
+ByteNode (picks t b w n) = n < 256
+ByteNode (steps t b w ks) = Unit {0}
 ByteNode (finishes t b a vs) = Unit {0}
 
 -- the number is 0 exactly if the answer is no refusal
 abbrev Small : Answer (List ℕ) → Type 0
-Small a = (eqb (numberOf a) 0 ≡ isGood a) × (numberOf a ≤ 17) × (placeOf a < 256)
+Small a = (eqb (numberOf a) 0 ≡ isGood a) × (numberOf a ≤ 18) × (placeOf a < 256)
 
 rows-small : (P : List ℕ → Type 0) (a : Answer (List ℕ)) → Rows P a → Small a
 rows-small P (refused n p) h = (ne-eqb n 0 (λ e. omega (arith, h .0 .0)), h .0 .1, h .1)
@@ -306,15 +307,15 @@ rows-small P (good b) h = (refl, omega arith, omega arith)
 small : (c : Call) → ByteNode c → (a : Answer (List ℕ)) → AllowedBy c a → Small a
 small (checks t) l a h = rw h (rows-small (UpTo 0) (check t) (check-rows t))
 small (starts t b) l a h = rw h (rows-small (UpTo 4096) (start t b) (start-rows t b))
-small (sheets t b g) l a h = rw h (rows-small (UpTo 2864) (sheet t b g) (sheet-rows t b g))
-small (picks t b g n) l a h = rows-small Passed a (pick-rows t b g n l a h)
-small (steps t b g ks) l a h = rw h (rows-small (UpTo 8192) (step t b g ks) (step-rows t b g ks))
+small (sheets t b w) l a h = rw h (rows-small (UpTo 2864) (sheet t b w) (sheet-rows t b w))
+small (picks t b w n) l a h = rows-small Passed a (pick-rows t b w n l a h)
+small (steps t b w ks) l a h = rw h (rows-small (UpTo 8192) (step t b w ks) (step-rows t b w ks))
 small (finishes t b x vs) l a h = rw h (rows-small (UpTo 4096) (finish t b x vs) (finish-rows t b x vs))
 
 -- an answer that a word can say
 pub record Sayable (a : Answer (List ℕ)) : Type 0 where
   pub number-tells : eqb (numberOf a) 0 ≡ isGood a
-  pub number-fits : numberOf a ≤ 17
+  pub number-fits : numberOf a ≤ 18
   pub place-fits : placeOf a < 256
   pub length-fits : length (replyOf a) < 2 ^ 32
 

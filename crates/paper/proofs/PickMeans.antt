@@ -8,7 +8,7 @@ use mathlib.Core.List.{List, []}
 use borrow.Author.Tests.{not-true}
 use Rattle.paper.specs.Lists.{has, any}
 use Rattle.paper.specs.Answers.{Answer, refused, good}
-use Rattle.paper.specs.Offers.{belongs}
+use Rattle.paper.specs.Offers.{Terms, belongs}
 use Rattle.paper.specs.Choices.{Board, board, howMany, end, taken, takenEnds, acceptable, Before, FirstOf}
 use Rattle.paper.specs.Operations.{named, wanted, PickOn, PickIf, Pick}
 use Rattle.paper.proofs.Bools.{never, and-true, and-both, or-true, or-right, true-or-false}
@@ -60,13 +60,13 @@ module _ (d : Board) where
     unfolding wanted
     with-end-wanted a h = and-both (acceptable d x) _ a (or-right (not (named n)) _ h)
 
-module _ (t b g : List ℕ) (d : Board) (on : board t b g ≡ good d) (n : ℕ) where
-  on-board : (a : Answer (List ℕ)) → Pick t b g n a → PickOn d n a
+module _ (t b : List ℕ) (w : Terms) (d : Board) (on : board t b w ≡ good d) (n : ℕ) where
+  on-board : (a : Answer (List ℕ)) → Pick t b w n a → PickOn d n a
   unfolding Pick
   on-board a h = let r : PickIf (good d) n a = rw on at h in r
 
   -- ---- an answer
-  module _ (ks : List ℕ) (answer : Pick t b g n (good ks)) where
+  module _ (ks : List ℕ) (answer : Pick t b w n (good ks)) where
     picked : (c : ℕ) × FirstOf (wanted d n) (howMany d) c × (ks ≡ taken d c)
     picked = on-board (good ks) answer
 
@@ -109,15 +109,15 @@ module _ (t b g : List ℕ) (d : Board) (on : board t b g ≡ good d) (n : ℕ) 
             (λ e. any-wanted d n x e (a .accepted)) (true-or-false (named n))
 
   -- ---- the empty answer: no end at all can be taken
-  pub empty-means-nothing-can-be-taken : Pick t b g n (good []) → (x : ℕ) → Takable d x → taken d x ≡ []
+  pub empty-means-nothing-can-be-taken : Pick t b w n (good []) → (x : ℕ) → Takable d x → taken d x ≡ []
   empty-means-nothing-can-be-taken h x a = nothing-can-be-added [] h x a (λ k m. absurd (in-none m))
 
   -- and where none can be taken, it is the answer
-  pub nothing-to-take-is-empty : (ks : List ℕ) → ((x : ℕ) → Takable d x → taken d x ≡ []) → Pick t b g n (good ks) → ks ≡ []
+  pub nothing-to-take-is-empty : (ks : List ℕ) → ((x : ℕ) → Takable d x → taken d x ≡ []) → Pick t b w n (good ks) → ks ≡ []
   nothing-to-take-is-empty ks f h = let r = pick-can-be-taken ks h in r .1 ∙ f (pickedSet ks h) (r .0)
 
   -- ---- 13: no acceptable set has an end of the node
-  pub refused-means-none-for-the-node : (k p : ℕ) → Pick t b g n (refused k p) → (x : ℕ) → Takable d x → HasEndOf d n x → ⊥
+  pub refused-means-none-for-the-node : (k p : ℕ) → Pick t b w n (refused k p) → (x : ℕ) → Takable d x → HasEndOf d n x → ⊥
   refused-means-none-for-the-node k p h x a y =
       let r = on-board (refused k p) h in
       never (wanted d n x) (with-end-wanted d n x (a .accepted) y) (r .2 .none-wanted x (a .is-set))

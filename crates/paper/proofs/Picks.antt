@@ -8,6 +8,7 @@ use mathlib.Core.List.{List}
 use lib.Pow.{pow-pos}
 use mathlib.Core.Option.{Option, none, some}
 use Rattle.paper.specs.Answers.{Answer, refused, good}
+use Rattle.paper.specs.Offers.{Terms}
 use Rattle.paper.specs.Choices.{Board, board, howMany, taken, acceptable}
 use Rattle.paper.specs.Operations.{named, wanted, PickOn, PickIf, Pick}
 use Rattle.paper.proofs.Bools.{never, true-or-false}
@@ -26,9 +27,9 @@ if-unique : (r : Answer Board) (n : ℕ) (a b : Answer (List ℕ)) → PickIf r 
 if-unique (refused k p) n a b h i = h ∙ sym i
 if-unique (good d) n a b h i = on-unique d n a b h i
 
-pub pick-unique : (t b g : List ℕ) (n : ℕ) (x y : Answer (List ℕ)) → Pick t b g n x → Pick t b g n y → x ≡ y
+pub pick-unique : (t b : List ℕ) (w : Terms) (n : ℕ) (x y : Answer (List ℕ)) → Pick t b w n x → Pick t b w n y → x ≡ y
 unfolding Pick
-pick-unique t b g n x y h i = if-unique (board t b g) n x y h i
+pick-unique t b w n x y h i = if-unique (board t b w) n x y h i
 
 -- ---- the search, on a board and on bytes; it computes, so worked cases can be tried
 abbrev pub answer : Board → ℕ → Option ℕ → Answer (List ℕ)
@@ -39,8 +40,8 @@ abbrev pub searchedOn : Answer Board → ℕ → Answer (List ℕ)
 searchedOn (refused k p) n = refused k p
 searchedOn (good d) n = answer d n (look (wanted d n) (howMany d) 0 0)
 
-unfoldable pub searched : List ℕ → List ℕ → List ℕ → ℕ → Answer (List ℕ)
-searched t b g n = searchedOn (board t b g) n
+unfoldable pub searched : List ℕ → List ℕ → Terms → ℕ → Answer (List ℕ)
+searched t b w n = searchedOn (board t b w) n
 
 -- where no node is named, an acceptable choice is wanted
 pub any-wanted : (d : Board) (n c : ℕ) → named n ≡ false → acceptable d c ≡ true → wanted d n c ≡ true
@@ -70,6 +71,6 @@ if-searched : (r : Answer Board) (n : ℕ) → EmptyFine r → PickIf r n (searc
 if-searched (refused k p) n h = refl
 if-searched (good d) n h = search-picks d n (λ e. h)
 
-pub searched-picks : (t b g : List ℕ) (n : ℕ) → EmptyFine (board t b g) → Pick t b g n (searched t b g n)
+pub searched-picks : (t b : List ℕ) (w : Terms) (n : ℕ) → EmptyFine (board t b w) → Pick t b w n (searched t b w n)
 unfolding Pick searched
-searched-picks t b g n h = if-searched (board t b g) n h
+searched-picks t b w n h = if-searched (board t b w) n h

@@ -9,6 +9,7 @@ use lib.Dec.{leb}
 use lib.ListN.{length, take, drop}
 use lib.Seq.{take-append-seam}
 use Rattle.paper.specs.Answers.{Answer, refused, good}
+use Rattle.paper.specs.Offers.{Terms}
 use Rattle.paper.specs.Operations.{check, start, sheet, Pick, step, finish, packed, inRoom, Reply, Leaves, Only}
 use Rattle.paper.proofs.Calls.{OneAllowed, Call, checks, starts, sheets, picks, steps, finishes, AllowedBy, one-allowed}
 
@@ -98,14 +99,14 @@ check-same-answer t = same-bytes-same-answer (checks t)
 pub start-same-answer : (t b : List ℕ) → SameAnswer (Only (start t b))
 start-same-answer t b = same-bytes-same-answer (starts t b)
 
-pub sheet-same-answer : (t b g : List ℕ) → SameAnswer (Only (sheet t b g))
-sheet-same-answer t b g = same-bytes-same-answer (sheets t b g)
+pub sheet-same-answer : (t b : List ℕ) (w : Terms) → SameAnswer (Only (sheet t b w))
+sheet-same-answer t b w = same-bytes-same-answer (sheets t b w)
 
-pub pick-same-answer : (t b g : List ℕ) (n : ℕ) → SameAnswer (Pick t b g n)
-pick-same-answer t b g n = same-bytes-same-answer (picks t b g n)
+pub pick-same-answer : (t b : List ℕ) (w : Terms) (n : ℕ) → SameAnswer (Pick t b w n)
+pick-same-answer t b w n = same-bytes-same-answer (picks t b w n)
 
-pub step-same-answer : (t b g ks : List ℕ) → SameAnswer (Only (step t b g ks))
-step-same-answer t b g ks = same-bytes-same-answer (steps t b g ks)
+pub step-same-answer : (t b : List ℕ) (w : Terms) (ks : List ℕ) → SameAnswer (Only (step t b w ks))
+step-same-answer t b w ks = same-bytes-same-answer (steps t b w ks)
 
 pub finish-same-answer : (t b : List ℕ) (a : ℕ) (vs : List ℕ) → SameAnswer (Only (finish t b a vs))
 finish-same-answer t b a vs = same-bytes-same-answer (finishes t b a vs)

@@ -12,7 +12,7 @@ use borrow.Author.Tests.{leb-true}
 use Rattle.paper.specs.Lists.{has, below, all, gather}
 use Rattle.paper.specs.Answers.{good}
 use Rattle.paper.specs.Table.{edges}
-use Rattle.paper.specs.Offers.{Offer, lastEdge, value, paths, sortedPaths, offers, goesOver, ends, sizesFine, lex}
+use Rattle.paper.specs.Offers.{Offer, lastEdge, value, paths, sortedPaths, offers, Terms, goesOver, ends, sizesFine, lex}
 use Rattle.paper.specs.Choices.{Board, board, howMany, taken}
 use Rattle.paper.specs.Operations.{valueBytes, endBytes, sheetBytes}
 use Rattle.paper.proofs.Bools.{and-true}
@@ -31,12 +31,12 @@ pub record EndSizes (t : List ℕ) (o : Offer) : Type 0 where
   pub few : length (paths o) ≤ 8
   pub short : (q : List ℕ) → In q (paths o) → length q ≤ 16
 
-module _ (t b g : List ℕ) (d : Board) (h : board t b g ≡ good d) where
-  known : GoodBoard t b g d
-  known = board-good t b g d h
+module _ (t b : List ℕ) (w : Terms) (d : Board) (h : board t b w ≡ good d) where
+  known : GoodBoard t b w d
+  known = board-good t b w d h
 
   os : List Offer
-  os = offers t (goesOver g) (d .current)
+  os = offers t (goesOver w) (d .current)
 
   sizes : (all (λ o. leb (length (paths o)) 8) os ≡ true) × (length (ends t os) ≤ 20)
   unfolding sizesFine os
@@ -52,11 +52,11 @@ module _ (t b g : List ℕ) (d : Board) (h : board t b g ≡ good d) where
   unfolding os
   end-sizes o k =
       let i = in-ends t os (rw (known .facts .is-ends) at k) .0 in
-      let r = in-offers t (goesOver g) (d .current) i in
+      let r = in-offers t (goesOver w) (d .current) i in
       record {
-        edge = rw (on-last t (goesOver g) (d .current) 16 (r .0) (r .2)) (r .1);
+        edge = rw (on-last t (goesOver w) (d .current) 16 (r .0) (r .2)) (r .1);
         few = leb-true _ _ (all-in (λ o. leb (length (paths o)) 8) (sizes .0) i);
-        short = λ q z. path-short t (goesOver g) (d .current) 16 (r .0) (r .2) z;
+        short = λ q z. path-short t (goesOver w) (d .current) 16 (r .0) (r .2) z;
       }
 
   -- ---- a choice
@@ -77,7 +77,7 @@ end-most o f =
     value-five none = refl
     value-five (some v) = refl
 
-pub sheet-most : (t b g : List ℕ) (d : Board) → board t b g ≡ good d → length (sheetBytes (d .allEnds)) ≤ 2864
+pub sheet-most : (t b : List ℕ) (w : Terms) (d : Board) → board t b w ≡ good d → length (sheetBytes (d .allEnds)) ≤ 2864
 unfolding sheetBytes
-sheet-most t b g d h =
-    omega (arith, length-gather-most endBytes 143 (d .allEnds) (λ o i. end-most o (end-sizes t b g d h o i)), few-ends t b g d h)
+sheet-most t b w d h =
+    omega (arith, length-gather-most endBytes 143 (d .allEnds) (λ o i. end-most o (end-sizes t b w d h o i)), few-ends t b w d h)

@@ -1,5 +1,5 @@
 -- The small event: the paper's list "To prove, as one table (T the table, M the marking)" as a table, `cases`, in its order and numbers, and one theorem that
--- every row holds, `small-event`. Assumes nothing.
+-- every row holds, `small-event`; and the same event under bounds, `bound-cases`. Assumes nothing.
 use Prim.Native.Nat.{ℕ}
 use mathlib.Core.Path.{_≡_, refl, sym, subst}
 use mathlib.Core.Logic.{⊎-elim}
@@ -7,7 +7,9 @@ use mathlib.Core.List.{List, [], _∷_, _++_}
 use lib.ListN.{set}
 use Rattle.paper.specs.Lists.{each}
 use Rattle.paper.specs.Answers.{Answer, refused, good}
+use Rattle.paper.specs.Bytes.{four}
 use Rattle.paper.specs.Table.{nodeAt}
+use Rattle.paper.specs.Offers.{Terms, terms, noBounds}
 use Rattle.paper.specs.Operations.{start, Leaves}
 use Rattle.paper.specs.Program.{Prints}
 use Rattle.paper.proofs.Members.{In, in-none, in-cons}
@@ -44,12 +46,16 @@ M = 0x00 ∷ 0x0F ∷ 0x01 ∷ 0x00 ∷ 0x02 ∷ 0x00 ∷ 0x00 ∷ 0x00 ∷ 0x07
 abbrev pub M11 : List ℕ
 M11 = 0x00 ∷ 0x17 ∷ 0x01 ∷ 0x00 ∷ 0x02 ∷ 0x00 ∷ 0x00 ∷ 0x00 ∷ 0x07 ∷ 0x00 ∷ 0x00 ∷ 0x00 ∷ 0x09 ∷ 0x00 ∷ 0x00 ∷ 0x02 ∷ 0x00 ∷ 0x00 ∷ 0x00 ∷ 0x01 ∷ 0x00 ∷ 0x00 ∷ 0x00 ∷ 0x02 ∷ 0x01 ∷ []
 
+-- "Guards: five bytes 01."; no bounds
 abbrev pub guards : List ℕ
 guards = 0x01 ∷ 0x01 ∷ 0x01 ∷ 0x01 ∷ 0x01 ∷ []
 
+abbrev pub W : Terms
+W = terms guards noBounds
+
 -- C9: guard 3 at 0
-abbrev pub guards9 : List ℕ
-guards9 = set guards 3 0x00
+abbrev pub W9 : Terms
+W9 = terms (set guards 3 0x00) noBounds
 
 -- C7: what step 1 writes
 abbrev pub M7 : List ℕ
@@ -84,30 +90,30 @@ c n call answer = record { number = n; call = call; answer = answer }
 abbrev pub cases : List Case
 cases =
     -- the two ends above
-    c 1 (sheets T M guards) (good twoEnds) ∷
+    c 1 (sheets T M W) (good twoEnds) ∷
     -- choice 0,1: refusal 10 place 0
-    c 2 (steps T M guards (0 ∷ 1 ∷ [])) (refused 10 0) ∷
+    c 2 (steps T M W (0 ∷ 1 ∷ [])) (refused 10 0) ∷
     -- pick: 0
-    c 3 (picks T M guards 255) (good (0 ∷ [])) ∷
+    c 3 (picks T M W 255) (good (0 ∷ [])) ∷
     -- pick for node 5: 1
-    c 4 (picks T M guards 5) (good (1 ∷ [])) ∷
+    c 4 (picks T M W 5) (good (1 ∷ [])) ∷
     -- for node 4: 1
-    c 5 (picks T M guards 4) (good (1 ∷ [])) ∷
+    c 5 (picks T M W 4) (good (1 ∷ [])) ∷
     -- for node 2: 13 place 2
-    c 6 (picks T M guards 2) (refused 13 2) ∷
+    c 6 (picks T M W 2) (refused 13 2) ∷
     -- step 1: `000F 01 00 01 00000009 01 00000007 01 00 00`
-    c 7 (steps T M guards (1 ∷ [])) (good M7) ∷
+    c 7 (steps T M W (1 ∷ [])) (good M7) ∷
     -- then finish 5, no bytes: `000B 01 00 01 00000009 00 00 00 00`
     c 8 (finishes T M7 5 []) (good M8) ∷
     -- guard 3 at 0: one end, on edge 4
-    c 9 (sheets T M guards9) (good oneEnd) ∷
+    c 9 (sheets T M W9) (good oneEnd) ∷
     -- empty choice: M
-    c 10 (steps T M guards []) (good M) ∷
+    c 10 (steps T M W []) (good M) ∷
     -- node 6 holding two: step 0 gives 12 place 6
-    c 11 (steps T M11 guards (0 ∷ [])) (refused 12 6) ∷
+    c 11 (steps T M11 W (0 ∷ [])) (refused 12 6) ∷
     -- node 2 made a fork: step 0 gives 11 place 2, pick gives 0,1
-    c 12 (steps T12 M guards (0 ∷ [])) (refused 11 2) ∷
-    c 12 (picks T12 M guards 255) (good (0 ∷ 1 ∷ [])) ∷ []
+    c 12 (steps T12 M W (0 ∷ [])) (refused 11 2) ∷
+    c 12 (picks T12 M W 255) (good (0 ∷ 1 ∷ [])) ∷ []
 
 -- what is proved of a row: its operation's definition allows the answer and no other, and whatever meets the operation's promise on the row's call, whatever
 -- room is lent, returns the answer's word and leaves its bytes (`Left`)
@@ -136,9 +142,9 @@ computed-rows : Computed cases
 unfolding computed
 computed-rows =
     refl also refl
-    also picked T M guards 255 also picked T M guards 5 also picked T M guards 4 also picked T M guards 2
+    also picked T M W 255 also picked T M W 5 also picked T M W 4 also picked T M W 2
     also refl also refl also refl also refl also refl
-    also refl also picked T12 M guards 255 also tt
+    also refl also picked T12 M W 255 also tt
 
 in-computed : (rs : List Case) → Computed rs → (r : Case) → In r rs → AllowedBy (r .call) (r .answer)
 in-computed [] h r m = absurd (in-none m)
@@ -156,6 +162,41 @@ pub words : each (λ (r : Case). wordOf (r .answer)) cases ≡
     0x000B000200000000 ∷ 0x0000000000000002 ∷ []
 words = refl
 
+-- ---- wish 1 on the small event: a list of one entry. Edge 1 has a first offer, 2 and 3 leave the decision, 4 the join; edge 0 is a control edge
+abbrev bound : ℕ → ℕ → ℕ → Terms
+bound e lowest highest = terms guards (0x00 ∷ 0x0B ∷ 0x01 ∷ 0x01 ∷ e ∷ four lowest ++ four highest)
+
+abbrev pub bound-cases : List Case
+bound-cases =
+    -- both bounds count as inside
+    c 1 (sheets T M (bound 3 7 7)) (good twoEnds) ∷
+    -- a branch of the decision bars the value
+    c 2 (sheets T M (bound 3 8 4294967295)) (good oneEnd) ∷
+    c 3 (sheets T M (bound 3 0 6)) (good oneEnd) ∷
+    -- the first offer's edge does, so there is no end
+    c 4 (sheets T M (bound 1 8 9)) (good (0x00 ∷ 0x02 ∷ 0x01 ∷ 0x00 ∷ [])) ∷
+    -- the edge that leaves the join does: the end on edge 3 is left, and none is the action's
+    c 5 (sheets T M (bound 4 8 9)) (good (0x00 ∷ 0x0C ∷ 0x01 ∷ 0x01 ∷ 0x03 ∷ 0x01 ∷ 0x00 ∷ 0x00 ∷ 0x00 ∷ 0x07 ∷ 0x01 ∷ 0x02 ∷ 0x01 ∷ 0x03 ∷ [])) ∷
+    c 6 (picks T M (bound 4 8 9) 5) (refused 13 5) ∷
+    c 7 (steps T M (bound 4 8 9) (0 ∷ [])) (good (0x00 ∷ 0x0F ∷ 0x01 ∷ 0x00 ∷ 0x01 ∷ 0x00 ∷ 0x00 ∷ 0x00 ∷ 0x09 ∷ 0x00 ∷ 0x00 ∷ 0x01 ∷ 0x00 ∷ 0x00 ∷ 0x00 ∷ 0x07 ∷ 0x01 ∷ [])) ∷
+    -- "Control edges may not be listed.", "low above high", no such edge, no list at all
+    c 8 (sheets T M (bound 0 0 9)) (refused 18 0) ∷
+    c 9 (sheets T M (bound 3 9 8)) (refused 18 0) ∷
+    c 10 (sheets T M (bound 5 0 9)) (refused 18 0) ∷
+    c 11 (sheets T M (terms guards [])) (refused 18 0) ∷
+    -- "after 7"
+    c 12 (sheets T M (terms [] [])) (refused 7 0) ∷ []
+
+computed-bounds : Computed bound-cases
+unfolding computed
+computed-bounds =
+    refl also refl also refl also refl
+    also refl also picked T M (bound 4 8 9) 5 also refl
+    also refl also refl also refl also refl also refl also tt
+
+pub bounds-on-the-small-event : (r : Case) → In r bound-cases → Holds r
+bounds-on-the-small-event r m = holds r (in-computed bound-cases computed-bounds r m)
+
 -- ---- besides
 -- start, given what node 1 holds, writes the marking
 pub started : start T (0x02 ∷ 0x00 ∷ 0x00 ∷ 0x00 ∷ 0x07 ∷ 0x00 ∷ 0x00 ∷ 0x00 ∷ 0x09 ∷ []) ≡ good M
@@ -166,4 +207,4 @@ started = refl
 pub printed : Prints (T ++ M ++ guards)
     (101 ∷ 110 ∷ 100 ∷ 115 ∷ 32 ∷ 50 ∷ 10 ∷ 48 ∷ 32 ∷ 51 ∷ 32 ∷ 54 ∷ 32 ∷ 55 ∷ 32 ∷ 49 ∷ 44 ∷ 51 ∷ 10 ∷ 49 ∷ 32 ∷ 52 ∷ 32 ∷ 52 ∷ 32 ∷ 55 ∷ 32 ∷ 48 ∷ 44 ∷ 52 ∷ 32 ∷ 49 ∷ 44 ∷ 50 ∷ 44 ∷ 52 ∷ 10 ∷ 112 ∷ 105 ∷ 99 ∷ 107 ∷ 32 ∷ 48 ∷ 10 ∷ [])
 unfolding computed
-printed = record { picked = good (0 ∷ []); allowed = picked T M guards 255; is-text = refl }
+printed = record { picked = good (0 ∷ []); allowed = picked T M W 255; is-text = refl }

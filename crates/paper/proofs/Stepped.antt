@@ -14,7 +14,7 @@ use Rattle.paper.specs.Limits.{limits}
 use Rattle.paper.specs.Answers.{good, judgedBy}
 use Rattle.paper.specs.Table.{nodes, edges, kind, owner, lower, upper, source, target, into, out, inputs, isObject, isControl, isAction, isInput, isBuffer, isOutgoing, isPin, isObjectNode, isActivityFinal, oneOf, mayLeave, mayEnter, tableFine}
 use Rattle.paper.specs.Marking.{Marking, Field, stockOf, runsOf, tokensOf, layout, counted, pinFine, cleared, markingFine, endedOf, hasStock, hasRuns, hasTokens, Good}
-use Rattle.paper.specs.Offers.{Offer, first, lastEdge, value, orElse, firsts, offersOn, offers, targetOf, belongs, ends, goesOver, guardsFine, sizesFine}
+use Rattle.paper.specs.Offers.{Offer, first, lastEdge, value, orElse, firsts, offersOn, offers, targetOf, belongs, ends, Terms, goesOver, guardsFine, boundsFine, sizesFine}
 use Rattle.paper.specs.Choices.{Board, boardOf, howMany, takenEnds, arrivals, rule1, rule2, rule3, actionAgrees, agrees, rules, spent, spend, gain, close, next}
 use Rattle.paper.specs.Operations.{rising, choiceOf, stepOf}
 use Rattle.paper.proofs.Bools.{never, and-true, and-both, or-true, or-right, if-true, either-way}
@@ -151,26 +151,26 @@ ended-good t m ok = record {
     clear (tokensOf j) k = refl
 
 -- ---- the step
-module _ (t g : List ℕ) (m : Marking) (fine : tableFine t limits ≡ good tt) (ok : Good t m) (live : m .ended ≡ false) (c : ℕ) where
+module _ (t : List ℕ) (w : Terms) (m : Marking) (fine : tableFine t limits ≡ good tt) (ok : Good t m) (live : m .ended ≡ false) (c : ℕ) where
   abbrev on : Board
-  on = record { table = t; current = m; allOffers = offers t (goesOver g) m; allEnds = ends t (offers t (goesOver g) m) }
+  on = record { table = t; current = m; allOffers = offers t (goesOver w) m; allEnds = ends t (offers t (goesOver w) m) }
 
   whole : GoodTable t limits
   whole = table-good t limits fine
 
   -- the taken ends are offers of the table
-  taken-offer : {o : Offer} → In o (takenEnds on c) → In o (offers t (goesOver g) m)
-  taken-offer k = in-ends t (offers t (goesOver g) m) (taken-in on c k) .0
+  taken-offer : {o : Offer} → In o (takenEnds on c) → In o (offers t (goesOver w) m)
+  taken-offer k = in-ends t (offers t (goesOver w) m) (taken-in on c k) .0
 
   taken-edge : {o : Offer} → In o (takenEnds on c) → lastEdge o < edges t
   taken-edge k =
-      let r = in-offers t (goesOver g) m (taken-offer k) in
-      omega (arith, r .1, on-last t (goesOver g) m (limits .longestPath) (r .0) (r .2))
+      let r = in-offers t (goesOver w) m (taken-offer k) in
+      omega (arith, r .1, on-last t (goesOver w) m (limits .longestPath) (r .0) (r .2))
 
   taken-small : {o : Offer} → In o (takenEnds on c) → Small (value o)
   taken-small k =
-      let r = in-offers t (goesOver g) m (taken-offer k) in
-      small-on t (goesOver g) m ok (limits .longestPath) (r .0) (r .2)
+      let r = in-offers t (goesOver w) m (taken-offer k) in
+      small-on t (goesOver w) m ok (limits .longestPath) (r .0) (r .2)
 
   arrived : (i : ℕ) {o : Offer} → In o (arrivals on c i) → In o (takenEnds on c) × (target t (lastEdge o) ≡ i)
   unfolding arrivals
@@ -184,7 +184,7 @@ module _ (t g : List ℕ) (m : Marking) (fine : tableFine t limits ≡ good tt) 
       (subst (λ n. n < nodes t) (r .1) (f .target-fits), subst (λ n. mayEnter (isObject t (lastEdge o)) (kind t n) ≡ true) (r .1) (f .may-enter))
 
   with-value : (i : ℕ) → isObjectNode (kind t i) ≡ true → (o : Offer) → In o (arrivals on c i) → isSome (value o) ≡ true
-  with-value i h o k = offer-value t (goesOver g) m fine o (in-elem (taken-offer (arrived i k .0))) ∙ object-enter (isObject t (lastEdge o)) (kind t i) (enters i k .1) h .0
+  with-value i h o k = offer-value t (goesOver w) m fine o (in-elem (taken-offer (arrived i k .0))) ∙ object-enter (isObject t (lastEdge o)) (kind t i) (enters i k .1) h .0
 
   -- ---- what comes and what is left
   abbrev came : ℕ → List ℕ
@@ -392,16 +392,17 @@ module _ (t g : List ℕ) (m : Marking) (fine : tableFine t limits ≡ good tt) 
     next-good = either-way (Good t) (any (λ o. isActivityFinal (kind t (targetOf t o))) (takenEnds on c)) (endedOf t moved) moved (ended-good t moved moved-good) moved-good
 
 -- a step on a good marking makes a good one
-pub step-good : (t g : List ℕ) (m : Marking) → tableFine t limits ≡ good tt → Good t m → (d : Board) → boardOf t m g ≡ good d
+pub step-good : (t : List ℕ) (w : Terms) (m : Marking) → tableFine t limits ≡ good tt → Good t m → (d : Board) → boardOf t m w ≡ good d
     → (ks : List ℕ) (m′ : Marking) → stepOf d ks ≡ good m′ → Good t m′
 unfolding boardOf stepOf
-step-good t g m fine ok d h ks m′ s =
+step-good t w m fine ok d h ks m′ s =
     let r6 = need-good 6 (not (m .ended)) _ d h in
-    let r7 = need-good 7 (guardsFine t g) _ d (r6 .1) in
-    let r8 = need-good 8 (sizesFine t (offers t (goesOver g) m)) _ d (r7 .1) in
+    let r7 = need-good 7 (guardsFine t (w .guards)) _ d (r6 .1) in
+    let r18 = need-good 18 (boundsFine t (w .bounds)) _ d (r7 .1) in
+    let r8 = need-good 8 (sizesFine t (offers t (goesOver w) m)) _ d (r18 .1) in
     let e = same-good (r8 .1) in
     let r9 = need-good 9 (rising ks && all (λ k. ltb k (howMany d)) ks) _ m′ s in
     let r12 = row-good (judgedBy (rules d) (choiceOf ks)) _ m′ (r9 .1) in
     let n : Good t (next d (choiceOf ks)) =
-    subst (λ (x : Board). judgedBy (rules x) (choiceOf ks) ≡ good tt → Good t (next x (choiceOf ks))) e (next-good t g m fine ok (not-true (m .ended) (r6 .0)) (choiceOf ks)) (r12 .1) in
+    subst (λ (x : Board). judgedBy (rules x) (choiceOf ks) ≡ good tt → Good t (next x (choiceOf ks))) e (next-good t w m fine ok (not-true (m .ended) (r6 .0)) (choiceOf ks)) (r12 .1) in
     subst (Good t) (same-good (r12 .2)) n

@@ -9,17 +9,18 @@ use mathlib.Core.List.{List, [], _∷_, _++_}
 use mathlib.Core.Option.{Option, none, some}
 use lib.Dec.{leb, eqb}
 use lib.ListN.{length}
-use borrow.Author.Tests.{eqb-true, eqb-false, leb-true, not-true}
-use Rattle.paper.specs.Lists.{all, any, count, _⇒_}
+use borrow.Author.Tests.{eqb-true, eqb-false, leb-true, lt-leb, not-true}
+use Rattle.paper.specs.Lists.{all, any, count, each, _⇒_}
 use Rattle.paper.specs.Limits.{limits}
 use Rattle.paper.specs.Answers.{good}
 use Rattle.paper.specs.Table.{edges, kind, source, into, out, isInitial, isAction, isDecision, isMerge, isFork, isJoin, isControlNode, isObjectNode, isObject, isControl, mayLeave, degreesFine, oneKind, joinFine, tableFine}
 use Rattle.paper.specs.Marking.{Marking, counted}
-use Rattle.paper.specs.Offers.{Offer, first, over, with, elem, parts, value, lastEdge, origins, madeAt, orElse, firsts, offersOn, offers}
+use Rattle.paper.specs.Offers.{Offer, first, over, with, elem, parts, value, lastEdge, origins, madeAt, orElse, firsts, ways, offersOn, offers}
 use Rattle.paper.proofs.Bools.{never, and-true, or-true, or-left, or-right, if-true}
 use Rattle.paper.proofs.Members.{In, here, later, in-one, in-cons, in-equal, in-append, append-left, append-right, any-in, in-any, all-in, any-count, only, snoc-some}
+use Rattle.paper.proofs.Counts.{all-append}
 use Rattle.paper.proofs.Sameness.{elem-in, on-last}
-use Rattle.paper.proofs.Origins.{Handed, starts, extends, joins, Way, alone, beside, way-from, on-none, on-view, in-offers, in-into, out-in}
+use Rattle.paper.proofs.Origins.{Handed, starts, extends, joins, Way, alone, beside, way-of, way-from, on-none, on-view, in-offers, in-into, out-in}
 use Rattle.paper.proofs.Tables.{table-good, Shape}
 
 abbrev pub isSome : Option ℕ → Bool
@@ -225,6 +226,40 @@ module _ (t : List ℕ) (on : ℕ → List Offer) (alone-parts : (j : ℕ) (o : 
               ap (λ (v : Option ℕ). orElse v (value w)) (no-value (value o) (h j o (l j (here refl)) k ∙ e))
               ∙ rest u
 
+  -- at most one of the offers taken has a value, so a way passes a test on values exactly if each of them does
+  way-passes : ((j : ℕ) (o : Offer) → j < edges t → In o (on j) → isSome (value o) ≡ isObject t j)
+      → {js : List ℕ} {w : Offer} → ((j : ℕ) → In j js → j < edges t) → Way t on js w → count (isObject t) js ≤ 1
+      → (p : Option ℕ → Bool) → p none ≡ true → p (value w) ≡ all (λ q. p (value q)) (parts w)
+  unfolding value
+  way-passes h l (alone {j = j} {o = o} k) one p free = rw (alone-parts j o k) (sym (mathlib.Core.Bool.and-true (p (value o))))
+  way-passes h l (beside {j = j} {k = i} {js = js} {o = o} {w = w} k r c) one p free =
+      by (isObject t j) refl one (λ u. way-passes h (λ a d. l a (later d)) r u p free)
+    where
+      mine : all (λ q. p (value q)) (parts o) ≡ p (value o)
+      mine = rw (alone-parts j o k) (mathlib.Core.Bool.and-true (p (value o)))
+
+      both : all (λ q. p (value q)) (parts (with o w)) ≡ p (value o) && all (λ q. p (value q)) (parts w)
+      both =
+          ap (all (λ q. p (value q))) (with-parts o w) ∙ all-append (λ q. p (value q)) (parts o) (parts w)
+          ∙ ap (λ (b : Bool). b && all (λ q. p (value q)) (parts w)) mine
+
+      or-none : (v : Option ℕ) → orElse v none ≡ v
+      or-none none = refl
+      or-none (some x) = refl
+
+      by : (x : Bool) → isObject t j ≡ x → cond x (suc (count (isObject t) (i ∷ js))) (count (isObject t) (i ∷ js)) ≤ 1
+          → (count (isObject t) (i ∷ js) ≤ 1 → p (value w) ≡ all (λ q. p (value q)) (parts w))
+          → p (orElse (value o) (value w)) ≡ all (λ q. p (value q)) (parts (with o w))
+      by true e u rest =
+          let without : any (isObject t) (i ∷ js) ≡ false = any-count (isObject t) (i ∷ js) ∙ lt-leb 1 (count (isObject t) (i ∷ js)) (omega (arith, u)) in
+          let none-there : value w ≡ none = no-value (value w) (way-value t on h (λ a d. l a (later d)) r ∙ without) in
+          ap (λ (v : Option ℕ). p (orElse (value o) v)) none-there ∙ ap p (or-none (value o))
+          ∙ sym (both ∙ ap (λ (b : Bool). p (value o) && b) (sym (rest (omega (arith, u))) ∙ ap p none-there ∙ free) ∙ mathlib.Core.Bool.and-true (p (value o)))
+      by false e u rest =
+          let none-here : value o ≡ none = no-value (value o) (h j o (l j (here refl)) k ∙ e) in
+          ap (λ (v : Option ℕ). p (orElse v (value w))) none-here ∙ rest u
+          ∙ sym (both ∙ ap (λ (b : Bool). b && all (λ q. p (value q)) (parts w)) (ap p none-here ∙ free))
+
 module _ (t : List ℕ) (goes : ℕ → Option ℕ → Bool) (m : Marking) (g : tableFine t limits ≡ good tt) where
   handed-parts : (n e : ℕ) {o : Offer} → In o (offersOn t goes m n e) → parts o ≡ o ∷ []
   unfolding parts
@@ -236,17 +271,26 @@ module _ (t : List ℕ) (goes : ℕ → Option ℕ → Bool) (m : Marking) (g : 
       by (extends c d i u) = refl
       by (joins c d v) = refl
 
+  -- a join's incoming edges: "at most one incoming object edge"
+  one-object : (e : ℕ) → e < edges t → isJoin (kind t (source t e)) ≡ true → count (isObject t) (into t (source t e)) ≤ 1
+  unfolding joinFine
+  one-object e l d = leb-true _ 1 (and-true (leb (count (isObject t) (into t (source t e))) 1) _ (if-true _ _ (at-source t g e l .join) d) .0)
+
+  -- a way at a join passes a test on values exactly if each of the offers taken does
+  pub joined-passes : (n e : ℕ) → e < edges t → isJoin (kind t (source t e)) ≡ true → (p : Option ℕ → Bool) → p none ≡ true
+      → (w : Offer) → In w (ways t (each (offersOn t goes m n) (into t (source t e)))) → p (value w) ≡ all (λ q. p (value q)) (parts w)
+  joined-passes n e l d p free w k =
+      way-passes t (offersOn t goes m n) (λ j o. handed-parts n j) (λ j o. on-last t goes m n j) (λ j o a b. value-on t goes m g n j a b)
+      (λ j i. in-into t (source t e) i .0) (way-of t (offersOn t goes m n) (into t (source t e)) k) (one-object e l d) p free
+
   -- what a join hands on to edge e
   joined-value : (n e : ℕ) {o : Offer} → e < edges t → isJoin (kind t (source t e)) ≡ true → In o (offersOn t goes m n e) → ObjectEdgesValue t o
-  unfolding joinFine value origins lastEdge
+  unfolding value origins lastEdge
   joined-value zero e l d k = absurd (on-none t goes m e k)
   joined-value (suc n) e l d k = by (on-view t goes m n e k)
     where
       control : isControlNode (kind t (source t e)) ≡ true
       control = ap isControlNode (eqb-true (kind t (source t e)) 11 d)
-
-      few : count (isObject t) (into t (source t e)) ≤ 1
-      few = leb-true _ 1 (and-true (leb (count (isObject t) (into t (source t e))) 1) _ (if-true _ _ (at-source t g e l .join) d) .0)
 
       inside : (j : ℕ) → In j (into t (source t e)) → j < edges t
       inside j i = in-into t (source t e) i .0
@@ -259,7 +303,7 @@ module _ (t : List ℕ) (goes : ℕ → Option ℕ → Bool) (m : Marking) (g : 
       by (extends c f i u) = never _ d f
       by (joins {w = w} c f v) = record {
         one-each = way-each t (offersOn t goes m n) (λ j o. handed-parts n j) (λ j o. on-last t goes m n j) v;
-        is-that = way-object t (offersOn t goes m n) (λ j o. handed-parts n j) (λ j o. on-last t goes m n j) valued inside v few;
+        is-that = way-object t (offersOn t goes m n) (λ j o. handed-parts n j) (λ j o. on-last t goes m n j) valued inside v (one-object e l d);
         none-without = λ h. no-value (value w) (way-value t (offersOn t goes m n) valued inside v ∙ h);
       }
 

@@ -9,6 +9,7 @@ use Rattle.paper.specs.Answers.{good}
 use Rattle.paper.specs.Limits.{limits}
 use Rattle.paper.specs.Table.{tableFine}
 use Rattle.paper.specs.Marking.{Marking, encode, marking, Good}
+use Rattle.paper.specs.Offers.{Terms}
 use Rattle.paper.specs.Choices.{Board, board}
 use Rattle.paper.specs.Operations.{startOf, start, stepOf, step, finishOf, finish}
 use Rattle.paper.proofs.Ladders.{same-good, row-good, known-good, need-good}
@@ -66,23 +67,23 @@ kept t out m fine g e = record {
   read = subst (λ b. marking t b ≡ some m) e (reads-back t m fine g);
 }
 
-pub step-meant : (t b g ks out : List ℕ) → Bytes b → step t b g ks ≡ good out
-    → (d : Board) × (m : Marking) × (board t b g ≡ good d) × (stepOf d ks ≡ good m) × Kept t out m
+pub step-meant : (t b : List ℕ) (w : Terms) (ks out : List ℕ) → Bytes b → step t b w ks ≡ good out
+    → (d : Board) × (m : Marking) × (board t b w ≡ good d) × (stepOf d ks ≡ good m) × Kept t out m
 unfolding step board
-step-meant t b g ks out u h =
-    let k = row-good (board t b g) _ out h in
+step-meant t b w ks out u h =
+    let k = row-good (board t b w) _ out h in
     let d = k .0 in
     let s = row-good (stepOf d ks) _ out (k .2) in
     let r = row-good (tableFine t limits) _ d (k .1) in
     let q = known-good 5 (marking t b) _ d (r .2) in
     let m = q .0 in
-    (d, s .0, k .1, s .1, kept t out (s .0) (r .1) (step-good t g m (r .1) (read-is-good t b m u (q .1) .0) d (q .2) ks (s .0) (s .1)) (same-good (s .2)))
+    (d, s .0, k .1, s .1, kept t out (s .0) (r .1) (step-good t w m (r .1) (read-is-good t b m u (q .1) .0) d (q .2) ks (s .0) (s .1)) (same-good (s .2)))
 
 -- ---- a day of calls
 -- the bytes that a day on the table t comes to, call after call, each on what the one before wrote
 pub data Day (t : List ℕ) : List ℕ → Type 0 where
   begun : {out : List ℕ} (vs : List ℕ) → Bytes vs → start t vs ≡ good out → Day t out
-  stepped : {b out : List ℕ} (g ks : List ℕ) → Day t b → step t b g ks ≡ good out → Day t out
+  stepped : {b out : List ℕ} (w : Terms) (ks : List ℕ) → Day t b → step t b w ks ≡ good out → Day t out
   finished : {b out : List ℕ} (a : ℕ) (vs : List ℕ) → Bytes vs → Day t b → finish t b a vs ≡ good out → Day t out
 
 -- whatever is called in it, a day's marking is good, and it reads back: refusal 5 is never met
@@ -91,8 +92,8 @@ unfolding start finish
 no-bad-day {t} {b} (begun vs u h) =
     let r = start-meant t vs b u h in
     (r .0, kept t b (r .0) (row-good (tableFine t limits) _ b h .1) (r .2 .is-good) (r .2 .written))
-no-bad-day {t} {b = out} (stepped {b = b} g ks y h) =
-    let r = step-meant t b g ks out (no-bad-day y .1 .bytes) h in
+no-bad-day {t} {b = out} (stepped {b = b} w ks y h) =
+    let r = step-meant t b w ks out (no-bad-day y .1 .bytes) h in
     (r .1, r .4)
 no-bad-day {t} {b = out} (finished {b = b} a vs v y h) =
     let r = finish-meant t b a vs out (no-bad-day y .1 .bytes) v h in

@@ -10,7 +10,7 @@ pub data Answer (A : Type 0) : Type 0 where
   refused : ℕ → ℕ → Answer A
   good : A → Answer A
 
--- a ladder of rows: the first refusal is the answer, so rows stand in the order of their numbers
+-- a ladder of rows: the first refusal is the answer, so rows stand in the order of their numbers (18 stands where wish 1 has it, between 7 and 8)
 infixl 20 _>>=_
 abbrev pub _>>=_ : {A B : Type 0} → Answer A → (A → Answer B) → Answer B
 _>>=_ (refused n p) f = refused n p

@@ -27,6 +27,10 @@ listed vs = length vs ∷ gather four vs
 abbrev pub framed : List ℕ → Bool
 framed b = eqb (at b 0 * 256 + at b 1 + 2) (length b)
 
+-- the number in the four bytes from a place on
+abbrev pub wordAt : List ℕ → ℕ → ℕ
+wordAt b from = ((at b from * 256 + at b (from + 1)) * 256 + at b (from + 2)) * 256 + at b (from + 3)
+
 -- what is read, and the bytes after it; none where the bytes don't fit
 abbrev pub Reader : Type 0 → Type 0
 Reader A = List ℕ → Option (A × List ℕ)

@@ -12,7 +12,7 @@ use Rattle.paper.specs.Answers.{Answer, good, _>>=_, need, known, judged
 use Rattle.paper.specs.Limits.{limits}
 use Rattle.paper.specs.Table.{nodes, kind, lower, upper, into, out, inputs, isControl, isAction, isBuffer, isOutgoing, isObjectNode, isFork, isActivityFinal, tableFine}
 use Rattle.paper.specs.Marking.{Marking, marking, endedOf}
-use Rattle.paper.specs.Offers.{Offer, first, lastEdge, value, makers, origins, elem, compete, isFirst, madeAt, targetOf, belongs, guardsFine, goesOver, offers, ends, sizesFine}
+use Rattle.paper.specs.Offers.{Offer, first, lastEdge, value, makers, origins, elem, compete, isFirst, madeAt, targetOf, belongs, guardsFine, boundsFine, Terms, goesOver, offers, ends, sizesFine}
 
 -- what sheet, pick and step are asked about: a table, a marking of it, all offers, and the ends in order
 pub record Board : Type 0 where
@@ -21,21 +21,22 @@ pub record Board : Type 0 where
   pub allOffers : List Offer
   pub allEnds : List Offer
 
--- rows 6 to 8, of a marking and guards
-unfoldable pub boardOf : List ℕ → Marking → List ℕ → Answer Board
-boardOf t m g = do
+-- rows 6 to 8, of a marking and terms; 18 comes "after 7 and before 8"
+unfoldable pub boardOf : List ℕ → Marking → Terms → Answer Board
+boardOf t m w = do
   _ ← need 6 (not (m .ended))
-  _ ← need 7 (guardsFine t g)
-  let os = offers t (goesOver g) m
+  _ ← need 7 (guardsFine t (w .guards))
+  _ ← need 18 (boundsFine t (w .bounds))
+  let os = offers t (goesOver w) m
   _ ← need 8 (sizesFine t os)
   good (record { table = t; current = m; allOffers = os; allEnds = ends t os })
 
 -- rows 1 to 8, of bytes
-unfoldable pub board : List ℕ → List ℕ → List ℕ → Answer Board
-board t b g = do
+unfoldable pub board : List ℕ → List ℕ → Terms → Answer Board
+board t b w = do
   _ ← tableFine t limits
   m ← known 5 (marking t b)
-  boardOf t m g
+  boardOf t m w
 
 module _ (d : Board) where
   abbrev pub howMany : ℕ

@@ -1,13 +1,14 @@
--- "Offers": offers, makers, competing, ends in order, rows 7 and 8. Assumes nothing.
-use Prim.Native.Nat.{ℕ, zero, suc, compare, Ordering, Ordering·lt, Ordering·eq, Ordering·gt}
+-- "Offers", with wish 1: offers, makers, competing, ends in order, rows 7, 18 and 8. Assumes nothing.
+use Prim.Native.Nat.{ℕ, zero, suc, _+_, _*_, _-_, compare, Ordering, Ordering·lt, Ordering·eq, Ordering·gt}
 use mathlib.Core.Bool.{Bool, true, false, not, _&&_, _||_, cond}
 use mathlib.Core.List.{List, [], _∷_, _++_}
 use mathlib.Core.Option.{Option, none, some}
-use lib.Dec.{leb, eqb}
+use lib.Dec.{leb, ltb, eqb}
 use lib.ListN.{length}
-use Rattle.paper.specs.Lists.{at, below, all, any, keep, gather, each, _⇒_}
+use Rattle.paper.specs.Lists.{at, below, all, any, keep, gather, each, within, _⇒_}
 use Rattle.paper.specs.Limits.{limits}
-use Rattle.paper.specs.Table.{edges, kind, owner, source, target, guarded, into, isDecision, isJoin, isControlNode, isPin, isObjectNode}
+use Rattle.paper.specs.Bytes.{framed, wordAt}
+use Rattle.paper.specs.Table.{edges, kind, owner, source, target, guarded, isObject, into, isDecision, isJoin, isControlNode, isPin, isObjectNode}
 use Rattle.paper.specs.Marking.{Marking, counted}
 
 -- An offer, as the tree of what made it. `first e v`: a first offer on edge e with value v. `over o e`: o extended over edge e.
@@ -92,9 +93,60 @@ guardsFine t g =
     eqb (length g) (edges t)
     && all (λ j. leb (at g j) 1 && (eqb (guarded t j) 0 ⇒ eqb (at g j) 1)) (below (edges t))
 
--- whether an offer with value v goes over edge e: "No offer goes over an edge whose byte is 0."
-unfoldable pub goesOver : List ℕ → ℕ → Option ℕ → Bool
-goesOver g e v = eqb (at g e) 1
+-- ---- wish 1: "a bounds list: length, version 1, a count, then per entry an edge, a low and a high unsigned value of 4 bytes"
+module _ (x : List ℕ) where
+  -- offsets: the one place that knows them
+  unfoldable pub boundsVersion : ℕ
+  boundsVersion = at x 2
+
+  unfoldable pub boundsCount : ℕ
+  boundsCount = at x 3
+
+  abbrev pub boundAt : ℕ → ℕ
+  boundAt k = 4 + 9 * k
+
+  unfoldable pub boundEdge : ℕ → ℕ
+  boundEdge k = at x (boundAt k)
+
+  unfoldable pub low : ℕ → ℕ
+  low k = wordAt x (boundAt k + 1)
+
+  unfoldable pub high : ℕ → ℕ
+  high k = wordAt x (boundAt k + 5)
+
+  -- an entry of a table's list: "edges rising, guarded or not", "Control edges may not be listed.", "(also low above high)"
+  unfoldable pub boundFine : List ℕ → ℕ → Bool
+  boundFine t k =
+      ltb (boundEdge k) (edges t) && isObject t (boundEdge k) && leb (low k) (high k)
+      && (eqb k 0 || ltb (boundEdge (k - 1)) (boundEdge k))
+
+  -- whether a value "lies in the bounds", of those that are listed for edge e; what has no value isn't asked
+  unfoldable pub inBounds : ℕ → Option ℕ → Bool
+  inBounds e none = true
+  inBounds e (some v) = all (λ k. eqb (boundEdge k) e ⇒ within (low k) (high k) v) (below boundsCount)
+
+-- row 18: "bad bounds list"
+unfoldable pub boundsFine : List ℕ → List ℕ → Bool
+boundsFine t x =
+    framed x && eqb (boundsVersion x) 1 && eqb (length x) (boundAt x (boundsCount x))
+    && all (boundFine x t) (below (boundsCount x))
+
+-- the list with "count 0"
+abbrev pub noBounds : List ℕ
+noBounds = 0 ∷ 2 ∷ 1 ∷ 0 ∷ []
+
+-- ---- what a call says of the edges of its table
+pub record Terms : Type 0 where
+  pub guards : List ℕ
+  pub bounds : List ℕ
+
+abbrev pub terms : List ℕ → List ℕ → Terms
+terms g x = record { guards = g; bounds = x }
+
+-- whether an offer with value v goes over edge e: "No offer goes over an edge whose byte is 0.", and "An offer with a value goes over a listed edge exactly
+-- if its byte is 1 and its value lies in the bounds."
+unfoldable pub goesOver : Terms → ℕ → Option ℕ → Bool
+goesOver w e v = eqb (at (w .guards) e) 1 && inBounds (w .bounds) e v
 
 module _ (t : List ℕ) where
   -- the node where an offer was made

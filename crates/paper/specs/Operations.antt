@@ -12,7 +12,7 @@ use Rattle.paper.specs.Limits.{limits}
 use Rattle.paper.specs.Bytes.{sized, four, valuesRead, eachRead, whole}
 use Rattle.paper.specs.Table.{nodes, edges, kind, owner, upper, source, outputs, isInitial, isAction, isInput, isIncoming, tableFine}
 use Rattle.paper.specs.Marking.{Marking, blank, encode, marking, hasTokens}
-use Rattle.paper.specs.Offers.{Offer, lastEdge, value, paths, sortedPaths, belongs}
+use Rattle.paper.specs.Offers.{Offer, Terms, lastEdge, value, paths, sortedPaths, belongs}
 use Rattle.paper.specs.Choices.{Board, board, howMany, taken, takenEnds, rules, acceptable, next, FirstOf}
 
 -- ---- "check: table. Writes nothing."
@@ -59,7 +59,7 @@ start t b = do
   m ← startOf t b
   good (encode t m)
 
--- ---- "sheet: table, marking, guards. Writes length (2), version 1, number of ends, then per end: last edge, 1 or 0 for value or none, 4 value
+-- ---- "sheet: table, marking, guards" and, by wish 1, bounds. "Writes length (2), version 1, number of ends, then per end: last edge, 1 or 0 for value or none, 4 value
 -- bytes (zero if none), number of paths, and per path, in sorted order, its length and edges."
 abbrev pub valueBytes : Option ℕ → List ℕ
 valueBytes none = 0 ∷ four 0
@@ -71,9 +71,9 @@ endBytes o = lastEdge o ∷ valueBytes (value o) ++ (length (paths o) ∷ gather
 unfoldable pub sheetBytes : List Offer → List ℕ
 sheetBytes es = sized (1 ∷ length es ∷ gather endBytes es)
 
-unfoldable pub sheet : List ℕ → List ℕ → List ℕ → Answer (List ℕ)
-sheet t b g = do
-  d ← board t b g
+unfoldable pub sheet : List ℕ → List ℕ → Terms → Answer (List ℕ)
+sheet t b w = do
+  d ← board t b w
   good (sheetBytes (d .allEnds))
 
 -- ---- "pick: as sheet, with a node number, or 255 for none named. Writes a choice."
@@ -98,8 +98,8 @@ abbrev pub PickIf : Answer Board → ℕ → Answer (List ℕ) → Type 0
 PickIf (refused k p) n a = a ≡ refused k p
 PickIf (good d) n a = PickOn d n a
 
-unfoldable pub Pick : List ℕ → List ℕ → List ℕ → ℕ → Answer (List ℕ) → Type 0
-Pick t b g n a = PickIf (board t b g) n a
+unfoldable pub Pick : List ℕ → List ℕ → Terms → ℕ → Answer (List ℕ) → Type 0
+Pick t b w n a = PickIf (board t b w) n a
 
 -- ---- "step: as sheet, with a choice. Writes the marking." Row 9: "choice not strictly rising, or no such end"
 abbrev pub rising : List ℕ → Bool
@@ -117,9 +117,9 @@ stepOf d ks = do
   _ ← judgedBy (rules d) (choiceOf ks)
   good (next d (choiceOf ks))
 
-unfoldable pub step : List ℕ → List ℕ → List ℕ → List ℕ → Answer (List ℕ)
-step t b g ks = do
-  d ← board t b g
+unfoldable pub step : List ℕ → List ℕ → Terms → List ℕ → Answer (List ℕ)
+step t b w ks = do
+  d ← board t b w
   m ← stepOf d ks
   good (encode t m)
 

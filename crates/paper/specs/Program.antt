@@ -8,7 +8,7 @@ use lib.Dec.{ltb}
 use lib.ListN.{length, take, drop}
 use Rattle.paper.specs.Lists.{at, below, each, gather}
 use Rattle.paper.specs.Answers.{Answer, refused, good}
-use Rattle.paper.specs.Offers.{lastEdge, value, sortedPaths, targetOf}
+use Rattle.paper.specs.Offers.{Terms, terms, noBounds, lastEdge, value, sortedPaths, targetOf}
 use Rattle.paper.specs.Choices.{Board, board, howMany, end}
 use Rattle.paper.specs.Operations.{Pick}
 
@@ -88,11 +88,15 @@ text (refused n p) a = refusalText n p
 text (good d) (refused n p) = refusalText n p
 text (good d) (good ks) = boardText d ks
 
+-- "With count 0, which the program passes" (wish 1)
+abbrev pub termsPart : List ℕ → Terms
+termsPart s = terms (guardsPart s) noBounds
+
 -- what is written for a stream
 pub record Prints (s written : List ℕ) : Type 0 where
   pub picked : Answer (List ℕ)
-  pub allowed : Pick (tablePart s) (markingPart s) (guardsPart s) 255 picked
-  pub is-text : written ≡ text (board (tablePart s) (markingPart s) (guardsPart s)) picked
+  pub allowed : Pick (tablePart s) (markingPart s) (termsPart s) 255 picked
+  pub is-text : written ≡ text (board (tablePart s) (markingPart s) (termsPart s)) picked
 
 -- what is written for an input, however long it is: the text of what is read of it
 abbrev pub PrintsFor : List ℕ → List ℕ → Type 0

@@ -7,7 +7,7 @@ use mathlib.Core.List.{List, [], _∷_, _++_}
 use mathlib.Core.Option.{Option, none, some}
 use lib.Dec.{eqb, leb}
 use lib.ListN.{length, getD}
-use Rattle.paper.specs.Lists.{all, each, gather, keep, below}
+use Rattle.paper.specs.Lists.{all, each, gather, keep, below, within, _⇒_}
 use Rattle.paper.specs.Limits.{limits}
 use Rattle.paper.specs.Table.{edges, source, target, kind, into, isControlNode}
 use Rattle.paper.specs.Offers.{Offer, first, over, with, lastEdge, value, paths, makers, origins}
@@ -15,6 +15,7 @@ use Rattle.paper.proofs.Members.{In, Distinct}
 use Rattle.paper.proofs.Competing.{StockFirst}
 use Rattle.words.specs.Clash.{hit}
 use Rattle.rows.specs.Sets.{nth, Means, Foes, Marks}
+use Rattle.rows.specs.declared.Gate.{Gate}
 
 -- ---- rows
 -- one row: last edge, the node it leaves, whether there is a value and which, the number of paths, and three words
@@ -81,6 +82,15 @@ unfoldable pub isOffer : Offer → Bool
 isOffer (first e v) = true
 isOffer (over o e) = true
 isOffer (with o p) = false
+
+-- whether a gate lets an offer with this value over its edge
+abbrev pub admitted : Gate → Option ℕ → Bool
+admitted y none = y .opened
+admitted y (some v) = y .opened && (y .listed ⇒ within (y .low) (y .high) v)
+
+-- those of xs that are let over an edge, where `lets v` says whether an offer with value v is
+abbrev pub letOver : (Option ℕ → Bool) → List Offer → List Offer
+letOver lets xs = keep (λ x. lets (value x)) xs
 
 -- the numbers of a row fit the arrays
 pub record Narrow (r : Entry) : Type 0 where
@@ -178,11 +188,11 @@ pub record Leaves (t : List ℕ) (e n k : ℕ) : Type 0 where
   pub kind-is : k ≡ kind t n
   pub control : isControlNode (kind t (source t e)) ≡ true
 
--- xs, in ts from a to b, are to be extended over e, which leaves node n of kind k
-pub record Ext (t : List ℕ) (r : Rows) (ts xs : List Offer) (a b e n k : ℕ) : Type 0 where
+-- of xs, in ts from a to b, those that are let over e are to be extended over it; it leaves node n of kind k
+pub record Ext (t : List ℕ) (r : Rows) (ts xs : List Offer) (a b e n k : ℕ) (lets : Option ℕ → Bool) : Type 0 where
   pub holds-ts : Holds t r ts
   pub seg : Seg ts a b xs
-  pub distinct : Distinct (ts ++ overs e xs)
+  pub distinct : Distinct (ts ++ overs e (letOver lets xs))
   pub leaves : Leaves t e n k
 
 -- every edge's part of a list of c offers
@@ -193,19 +203,20 @@ Ranges a b c = (j : ℕ) → (getD a j 0 ≤ getD b j 0) × (getD b j 0 ≤ c)
 unfoldable pub upto : List ℕ → ℕ → ℕ → List ℕ
 upto t s j = keep (λ i. eqb (target t i) s) (below j)
 
--- the offers on all incoming edges of s are to be extended over e
-pub record Pass (t : List ℕ) (r : Rows) (ts : List Offer) (on : ℕ → List Offer) (a b : List ℕ) (s e k : ℕ) : Type 0 where
+-- of the offers on all incoming edges of s, those that are let over e are to be extended over it
+pub record Pass (t : List ℕ) (r : Rows) (ts : List Offer) (on : ℕ → List Offer) (a b : List ℕ) (s e k : ℕ) (lets : Option ℕ → Bool) : Type 0 where
   pub holds-ts : Holds t r ts
   pub segs : (j : ℕ) → j < edges t → target t j ≡ s → Seg ts (getD a j 0) (getD b j 0) (on j)
-  pub distinct : Distinct (ts ++ overs e (gather on (into t s)))
+  pub distinct : Distinct (ts ++ overs e (letOver lets (gather on (into t s))))
   pub leaves : Leaves t e s k
 
 -- a first offer on e, as the caller has read it: 0 none, 1 a token, 2 the value v
 abbrev pub startOf : ℕ → ℕ → ℕ → List Offer
 startOf e c v = cond (eqb c 0) [] (first e (valueOf (c - 1) v) ∷ [])
 
-pub record Begin (t : List ℕ) (r : Rows) (ts : List Offer) (e s k c v : ℕ) : Type 0 where
+-- it is to be put behind ts, if it is let over e, which leaves node s of kind k
+pub record Begin (t : List ℕ) (r : Rows) (ts : List Offer) (e s k c v : ℕ) (lets : Option ℕ → Bool) : Type 0 where
   pub holds-ts : Holds t r ts
-  pub distinct : Distinct (ts ++ startOf e c v)
+  pub distinct : Distinct (ts ++ letOver lets (startOf e c v))
   pub node-is : s ≡ source t e
   pub kind-is : k ≡ kind t s

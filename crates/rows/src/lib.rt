@@ -14,7 +14,7 @@ ghost use Rattle.table.specs.Reading.{Spans};
 ghost use Rattle.paper.specs.Offers.{Offer, over};
 ghost use Rattle.paper.proofs.Members.{In};
 ghost use Rattle.rows.specs.Sets.{nth, meets};
-ghost use Rattle.rows.specs.Rows.{entryOf, rowsIn, cell, Holds, Pushed, Hits, Ready, Led, Leaves, Outcome, overs, Ext, Ranges, Pass, startOf, Begin};
+ghost use Rattle.rows.specs.Rows.{entryOf, rowsIn, cell, valueOf, admitted, letOver, Holds, Pushed, Hits, Ready, Led, Leaves, Outcome, overs, Ext, Ranges, Pass, startOf, Begin};
 
 // While they are built the rows stand in one lent slice, so that nothing but a slice and a count goes from call to call. A row is 16 cells: last
 // edge, the node it leaves, whether there is a value, the value, the number of paths, the words of parents, makers and foes, and for each path
@@ -159,6 +159,33 @@ pub fn compete(f: u64, m: u64, g: u64, n: u64) -> bool
     g & m != 0
 }
 
+// What an edge lets over it: nothing unless it is open; and if bounds are listed for it, of values those from low to high.
+pub struct Gate {
+    pub opened: bool,
+    pub listed: bool,
+    pub low: u64,
+    pub high: u64,
+}
+
+// Whether an offer goes over an edge; h is 0 where it has no value, else v is its value.
+pub fn admits(gate: Gate, h: u64, v: u64) -> bool
+    ensures { λ r. ⌜ r ≡ admitted gate (valueOf h v) ⌝ }
+{
+    if !gate.opened {
+        return false;
+    }
+    if h == 0 {
+        return true;
+    }
+    if !gate.listed {
+        return true;
+    }
+    if v < gate.low {
+        return false;
+    }
+    v <= gate.high
+}
+
 // ---- offers extended, and first offers
 // Offer i extended over edge e, which leaves node n of kind k.
 fn extend(rows: &mut [u64], count: usize, i: usize, e: u8, n: u8, k: u8)
@@ -193,33 +220,78 @@ pub struct Grown {
     pub ok: bool,
 }
 
-// Offers a to b extended over edge e.
-fn extend_all(rows: &mut [u64], count: usize, a: usize, b: usize, e: u8, n: u8, k: u8) -> Grown
+// Offer i extended over edge e, if the gate lets it. One that it bars is not counted, however full the rows are.
+fn extend_one(rows: &mut [u64], count: usize, i: usize, e: u8, n: u8, k: u8, gate: Gate) -> Grown
+    requires { ⌜ ((i < count) × (count ≤ 64)) × (1024 ≤ length (now rows)) ⌝ }
+    ensures { λ r. ⌜ ((count ≤ r .count) × (r .count ≤ 64)) × ((t : List ℕ) (ts : List Offer) (x : Offer) → Ext t (rowsIn (now (rows .entry)) count) ts (x ∷ []) i (i + 1) e n k (admitted gate) → Outcome t (rowsIn (now (rows .exit)) (r .count)) (r .ok) (ts ++ overs e (letOver (admitted gate) (x ∷ [])))) ⌝ }
+{
+    if !admits(gate, rows[WIDTH * i + HAS], rows[WIDTH * i + VALUE]) {
+        return Grown {
+            count: count,
+            ok: true,
+        };
+    }
+    if MOST_OFFERS <= count {
+        return Grown {
+            count: count,
+            ok: false,
+        };
+    }
+    extend(rows, count, i, e, n, k);
+    Grown {
+        count: count + 1,
+        ok: true,
+    }
+}
+
+// Those of the offers a to b that the gate lets over edge e, extended over it.
+fn extend_all(
+    rows: &mut [u64],
+    count: usize,
+    a: usize,
+    b: usize,
+    e: u8,
+    n: u8,
+    k: u8,
+    gate: Gate,
+) -> Grown
     requires { ⌜ ((a ≤ b) × (b ≤ count)) × ((count ≤ 64) × (1024 ≤ length (now rows))) ⌝ }
-    ensures { λ r. ⌜ ((count ≤ r .count) × (r .count ≤ 64)) × ((t : List ℕ) (ts xs : List Offer) → Ext t (rowsIn (now (rows .entry)) count) ts xs a b e n k → Outcome t (rowsIn (now (rows .exit)) (r .count)) (r .ok) (ts ++ overs e xs)) ⌝ }
+    ensures { λ r. ⌜ ((count ≤ r .count) × (r .count ≤ 64)) × ((t : List ℕ) (ts xs : List Offer) → Ext t (rowsIn (now (rows .entry)) count) ts xs a b e n k (admitted gate) → Outcome t (rowsIn (now (rows .exit)) (r .count)) (r .ok) (ts ++ overs e (letOver (admitted gate) xs))) ⌝ }
 {
     let mut c = count;
     let mut i = a;
     while i < b {
-        if MOST_OFFERS <= c {
-            return Grown {
-                count: c,
-                ok: false,
-            };
+        let g = extend_one(rows, c, i, e, n, k, gate);
+        if !g.ok {
+            return g;
         }
-        extend(rows, c, i, e, n, k);
-        c += 1;
+        c = g.count;
         i += 1;
     }
     Grown { count: c, ok: true }
 }
 
-// A first offer on edge e, which leaves node s of kind k: c is 0 for none, 1 for a token, 2 for the value v.
-pub fn begin(rows: &mut [u64], count: usize, e: u8, s: u8, k: u8, c: u8, v: u32) -> Grown
+// A first offer on edge e, which leaves node s of kind k, if the gate lets it: c is 0 for none, 1 for a token, 2 for the value v.
+pub fn begin(
+    rows: &mut [u64],
+    count: usize,
+    e: u8,
+    s: u8,
+    k: u8,
+    c: u8,
+    v: u32,
+    gate: Gate,
+) -> Grown
     requires { ⌜ (count ≤ 64) × (1024 ≤ length (now rows)) ⌝ }
-    ensures { λ r. ⌜ ((count ≤ r .count) × (r .count ≤ 64)) × ((t : List ℕ) (ts : List Offer) → Begin t (rowsIn (now (rows .entry)) count) ts e s k c v → Outcome t (rowsIn (now (rows .exit)) (r .count)) (r .ok) (ts ++ startOf e c v)) ⌝ }
+    ensures { λ r. ⌜ ((count ≤ r .count) × (r .count ≤ 64)) × ((t : List ℕ) (ts : List Offer) → Begin t (rowsIn (now (rows .entry)) count) ts e s k c v (admitted gate) → Outcome t (rowsIn (now (rows .exit)) (r .count)) (r .ok) (ts ++ letOver (admitted gate) (startOf e c v))) ⌝ }
 {
     if c == 0 {
+        return Grown {
+            count: count,
+            ok: true,
+        };
+    }
+    if !admits(gate, (c - 1) as u64, v as u64) {
         return Grown {
             count: count,
             ok: true,
@@ -251,7 +323,7 @@ pub fn begin(rows: &mut [u64], count: usize, e: u8, s: u8, k: u8, c: u8, v: u32)
     }
 }
 
-// The offers on each incoming edge of node s extended over edge e. `from` and `to` are the segments of the edges.
+// The offers on each incoming edge of node s that the gate lets over edge e, extended over it. `from` and `to` are the segments of the edges.
 pub fn pass(
     rows: &mut [u64],
     count: usize,
@@ -262,9 +334,10 @@ pub fn pass(
     s: u8,
     e: u8,
     k: u8,
+    gate: Gate,
 ) -> Grown
     requires { ⌜ (Spans (now t) table × ((count ≤ 64) × (1024 ≤ length (now rows)))) × (Ranges (now from) (now to) count × ((64 ≤ length (now from)) × (64 ≤ length (now to)))) ⌝ }
-    ensures { λ r. ⌜ ((count ≤ r .count) × (r .count ≤ 64)) × ((ts : List Offer) (on : ℕ → List Offer) → Pass (now (t .entry)) (rowsIn (now (rows .entry)) count) ts on (now (from .entry)) (now (to .entry)) s e k → Outcome (now (t .entry)) (rowsIn (now (rows .exit)) (r .count)) (r .ok) (ts ++ overs e (gather on (into (now (t .entry)) s)))) ⌝ }
+    ensures { λ r. ⌜ ((count ≤ r .count) × (r .count ≤ 64)) × ((ts : List Offer) (on : ℕ → List Offer) → Pass (now (t .entry)) (rowsIn (now (rows .entry)) count) ts on (now (from .entry)) (now (to .entry)) s e k (admitted gate) → Outcome (now (t .entry)) (rowsIn (now (rows .exit)) (r .count)) (r .ok) (ts ++ overs e (letOver (admitted gate) (gather on (into (now (t .entry)) s))))) ⌝ }
 {
     let node = wide(s);
     let n = table.edges;
@@ -274,7 +347,7 @@ pub fn pass(
         if table.target(t, j) == node {
             let a = wide(from[j]);
             let b = wide(to[j]);
-            let g = extend_all(rows, c, a, b, e, s, k);
+            let g = extend_all(rows, c, a, b, e, s, k, gate);
             if !g.ok {
                 return g;
             }

@@ -10,7 +10,7 @@ use Rattle.paper.specs.Answers.{Answer, refused, good, _>>=_, refuseIf, need, k
 use Rattle.paper.specs.Limits.{limits}
 use Rattle.paper.specs.Table.{nodes, edges, frameFine, nodeFine, edgeFine, shapeFine, tableFine}
 use Rattle.paper.specs.Marking.{marking}
-use Rattle.paper.specs.Offers.{guardsFine, goesOver, offers, sizesFine}
+use Rattle.paper.specs.Offers.{guardsFine, boundsFine, Terms, goesOver, offers, sizesFine}
 use Rattle.paper.specs.Choices.{boardOf, board}
 use Rattle.paper.proofs.Ladders.{no-good}
 use Rattle.paper.proofs.Lists.{lowest-is}
@@ -62,11 +62,12 @@ module _ (t : List ℕ) where
       framed true q u e = frame-facts t limits q
       framed false q u e = no-good e
 
-  pub board-plain : (b g : List ℕ) → Plain (board t b g)
+  pub board-plain : (b : List ℕ) (under : Terms) → Plain (board t b under)
   unfolding board boardOf
-  board-plain b g =
+  board-plain b under =
       plain-on (tableFine t limits) _ table-plain
       (λ u e. plain-on (known 5 (marking t b)) _ (plain-known 4 (marking t b))
       (λ m f. plain-on (need 6 (not (m .ended))) _ (plain-need 5 (not (m .ended)))
-      (λ v h. plain-on (need 7 (guardsFine t g)) _ (plain-need 6 (guardsFine t g))
-      (λ w i. plain-on (need 8 (sizesFine t (offers t (goesOver g) m))) _ (plain-need 7 (sizesFine t (offers t (goesOver g) m))) (λ x j. plain-good _)))))
+      (λ v h. plain-on (need 7 (guardsFine t (under .guards))) _ (plain-need 6 (guardsFine t (under .guards)))
+      (λ w i. plain-on (need 18 (boundsFine t (under .bounds))) _ (plain-need 17 (boundsFine t (under .bounds)))
+      (λ x j. plain-on (need 8 (sizesFine t (offers t (goesOver under) m))) _ (plain-need 7 (sizesFine t (offers t (goesOver under) m))) (λ y k. plain-good _))))))

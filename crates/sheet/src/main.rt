@@ -5,6 +5,7 @@ ghost use mathlib.Core.Path.{_≡_};
 ghost use mathlib.Core.List.{List};
 ghost use Prim.Native.Nat.{ℕ, _≤_};
 ghost use lib.ListN.{length, take};
+ghost use Rattle.paper.specs.Offers.{terms, noBounds};
 ghost use Rattle.paper.specs.Program.{mostInput, readOf, PrintsFor};
 ghost use Rattle.sheet.specs.Shown.{Shown, PrintsPick, PrintsParts};
 use libc::STDIN_FILENO;
@@ -32,11 +33,18 @@ fn describe_board(
     sheet: &[u8],
     out: &mut [u8],
 ) -> usize
-    requires { ⌜ Shown (now table) (now marking) (now guards) (now sheet) × (16464 ≤ length (now out)) ⌝ }
-    ensures { λ r. ⌜ ((x : Shown (now (table .entry)) (now (marking .entry)) (now (guards .entry)) (now (sheet .entry))) → PrintsPick (now (table .entry)) (now (marking .entry)) (now (guards .entry)) (x .on) (now (out .entry)) (now (out .exit)) r) ⌝ }
+    requires { ⌜ Shown (now table) (now marking) (terms (now guards) noBounds) (now sheet) × (16464 ≤ length (now out)) ⌝ }
+    ensures { λ r. ⌜ ((x : Shown (now (table .entry)) (now (marking .entry)) (terms (now (guards .entry)) noBounds) (now (sheet .entry))) → PrintsPick (now (table .entry)) (now (marking .entry)) (terms (now (guards .entry)) noBounds) (x .on) (now (out .entry)) (now (out .exit)) r) ⌝ }
 {
     let mut choice = [0u8; MOST_PICK];
-    let picked = keshmirun::pick(table, marking, guards, NONE_NAMED, &mut choice);
+    let picked = keshmirun::pick(
+        table,
+        marking,
+        guards,
+        &keshmirun::NO_BOUNDS,
+        NONE_NAMED,
+        &mut choice,
+    );
     let n = wire::length_in(picked);
     text::board_text(table, sheet, &choice[..n], out)
 }
@@ -44,10 +52,10 @@ fn describe_board(
 // Makes the text for a table, a marking and guards.
 fn describe_parts(table: &[u8], marking: &[u8], guards: &[u8], out: &mut [u8]) -> usize
     requires { ⌜ 16464 ≤ length (now out) ⌝ }
-    ensures { λ r. ⌜ (r ≤ length (now (out .exit))) × PrintsParts (now (table .entry)) (now (marking .entry)) (now (guards .entry)) (take r (now (out .exit))) ⌝ }
+    ensures { λ r. ⌜ (r ≤ length (now (out .exit))) × PrintsParts (now (table .entry)) (now (marking .entry)) (terms (now (guards .entry)) noBounds) (take r (now (out .exit))) ⌝ }
 {
     let mut sheet = [0u8; MOST_SHEET];
-    let shown = keshmirun::sheet(table, marking, guards, &mut sheet);
+    let shown = keshmirun::sheet(table, marking, guards, &keshmirun::NO_BOUNDS, &mut sheet);
     let number = wire::refusal_in(shown);
     if number != 0 {
         return text::refusal_text(number, wire::place_in(shown), out);

@@ -9,7 +9,7 @@ use Rattle.paper.specs.Lists.{at}
 use Rattle.paper.specs.Answers.{good}
 use Rattle.paper.specs.Table.{edges, kind, source, isObjectNode}
 use Rattle.paper.specs.Marking.{Marking, counted}
-use Rattle.paper.specs.Offers.{Offer, first, lastEdge, value, orElse, firsts, offersOn, offers, goesOver}
+use Rattle.paper.specs.Offers.{Offer, first, lastEdge, value, orElse, firsts, offersOn, offers, Terms, goesOver}
 use Rattle.paper.specs.Choices.{Board, board}
 use Rattle.paper.proofs.Bytes.{Bytes, never-some}
 use Rattle.paper.proofs.Members.{In, snoc-some}
@@ -65,10 +65,10 @@ pub record EndFacts (t : List ℕ) (o : Offer) : Type 0 where
   pub edge : lastEdge o < edges t
   pub small : Small (value o)
 
-pub end-facts : (t b g : List ℕ) (d : Board) → Bytes b → board t b g ≡ good d → (o : Offer) → In o (d .allEnds) → EndFacts t o
-end-facts t b g d u h o k =
-    let f = board-good t b g d h in
-    let i = in-ends t (offers t (goesOver g) (d .current)) (rw (f .facts .is-ends) at k) .0 in
-    let r = in-offers t (goesOver g) (d .current) i in
+pub end-facts : (t b : List ℕ) (w : Terms) (d : Board) → Bytes b → board t b w ≡ good d → (o : Offer) → In o (d .allEnds) → EndFacts t o
+end-facts t b w d u h o k =
+    let f = board-good t b w d h in
+    let i = in-ends t (offers t (goesOver w) (d .current)) (rw (f .facts .is-ends) at k) .0 in
+    let r = in-offers t (goesOver w) (d .current) i in
     let m = read-is-good t b (d .current) u (f .is-read) .0 in
-    record { edge = end-sizes t b g d h o k .edge; small = value-small t (goesOver g) (d .current) (m .values) 16 (r .0) (r .2) }
+    record { edge = end-sizes t b w d h o k .edge; small = value-small t (goesOver w) (d .current) (m .values) 16 (r .0) (r .2) }

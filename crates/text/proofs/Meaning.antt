@@ -19,7 +19,7 @@ use Rattle.paper.specs.Program.{decimal, commas, line, valueText, endLine, boar
 use Rattle.paper.proofs.Bytes.{four-back}
 use Rattle.paper.proofs.Boards.{board-good}
 use Rattle.paper.proofs.Sizes.{sheet-most}
-use Rattle.paper.proofs.Cursor.{wordAt}
+use Rattle.paper.specs.Bytes.{wordAt}
 use Rattle.paper.proofs.Lengths.{drop-head, gather-each}
 use Rattle.paper.proofs.Members.{In, here, later}
 use Rattle.paper.proofs.Orders.{sort-length}
@@ -195,7 +195,7 @@ module _ {t s : List ℕ} (x : Sheet t s) where
   es = x .of .allEnds
 
   facts : (o : Offer) → In o es → EndFacts t o
-  facts = end-facts t (x .marking) (x .guards) (x .of) (x .marking-bytes) (x .is-board)
+  facts = end-facts t (x .marking) (x .under) (x .of) (x .marking-bytes) (x .is-board)
 
   from-four : Rest s 4 (gather endBytes es)
   from-four = ends-from s es (x .is-sheet) .0
@@ -205,7 +205,7 @@ module _ {t s : List ℕ} (x : Sheet t s) where
 
   pub sheet-reads : (n : ℕ) → n ≡ at s 3 → Reads t s n
   sheet-reads n e =
-      let f = table-good t limits (board-good t (x .marking) (x .guards) (x .of) (x .is-board) .table-fine) .frame in
+      let f = table-good t limits (board-good t (x .marking) (x .under) (x .of) (x .is-board) .table-fine) .frame in
       let c : n ≡ length es = e ∙ count-here in
       record {
         spans = record { nodes-read = refl; edges-read = refl; few-nodes = f .nodes-fit; few-edges = f .edges-fit; whole = f .all-of-it };
@@ -217,8 +217,8 @@ module _ {t s : List ℕ} (x : Sheet t s) where
   pub text-is : (ks : List ℕ) → textShown t s ks ≡ boardText (x .of) ks
   unfolding textShown boardText countShown pickShown
   text-is ks =
-      let b = board-good t (x .marking) (x .guards) (x .of) (x .is-board) in
+      let b = board-good t (x .marking) (x .under) (x .of) (x .is-board) in
       rw (count-here, ends-here 0 es facts from-four, lines-are (x .of) t (b .facts .is-table))
 
   pub sheet-fits : length s ≤ 4096
-  sheet-fits = omega (arith, ap length (x .is-sheet), sheet-most t (x .marking) (x .guards) (x .of) (x .is-board))
+  sheet-fits = omega (arith, ap length (x .is-sheet), sheet-most t (x .marking) (x .under) (x .of) (x .is-board))

@@ -10,7 +10,7 @@ use borrow.Author.Tests.{ne-eqb}
 use Rattle.paper.specs.Lists.{at}
 use Rattle.paper.specs.Table.{target, edges}
 use Rattle.paper.specs.Program.{decimal, commas, refusalText}
-use Rattle.paper.proofs.Cursor.{wordAt}
+use Rattle.paper.specs.Bytes.{wordAt}
 use Rattle.text.specs.Shown.{pathOver, pathsOver, pathShown, pathsShown, valueShown, headShown, endOver, endShown, endsOver, endsShown, EndsFit, countShown, pickShown}
 
 module _ (s : List ℕ) where

@@ -3,6 +3,7 @@ use mathlib.Core.Path.{_≡_}
 use mathlib.Core.List.{List}
 use Prim.Native.Nat.{ℕ}
 use Rattle.paper.specs.Answers.{good}
+use Rattle.paper.specs.Offers.{Terms}
 use Rattle.paper.specs.Choices.{Board, board}
 use Rattle.paper.specs.Operations.{sheetBytes}
 use Rattle.paper.proofs.Bytes.{Bytes}
@@ -11,7 +12,7 @@ use Rattle.paper.proofs.Bytes.{Bytes}
 pub record Sheet (t s : List ℕ) : Type 0 where
   pub of : Board
   pub marking : List ℕ
-  pub guards : List ℕ
+  pub under : Terms
   pub marking-bytes : Bytes marking
-  pub is-board : board t marking guards ≡ good of
+  pub is-board : board t marking under ≡ good of
   pub is-sheet : s ≡ sheetBytes (of .allEnds)

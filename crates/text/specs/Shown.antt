@@ -8,7 +8,7 @@ use lib.ListN.{take, drop}
 use Rattle.paper.specs.Lists.{at}
 use Rattle.paper.specs.Table.{target, edges}
 use Rattle.paper.specs.Program.{decimal, commas}
-use Rattle.paper.proofs.Cursor.{wordAt}
+use Rattle.paper.specs.Bytes.{wordAt}
 
 module _ (s : List ℕ) where
   -- the place behind the path at p, and behind m paths from p on

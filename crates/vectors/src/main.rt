@@ -1,7 +1,7 @@
 // Reads calls as bytes from standard input and writes each answer as a line, so that outside vectors can be held to the library.
 //
-// A call is its operation (0 check, 1 start, 2 sheet, 3 pick, 4 step, 5 finish, 6 visits), the room to lend (2 bytes), a node or action (1 byte), then four slices, each a 2-byte length and its bytes: table, marking,
-// guards or values, choice. What an operation doesn't take is empty. A line is the refusal, the place and the reply in hex, `-` where it is empty.
+// A call is its operation (0 check, 1 start, 2 sheet, 3 pick, 4 step, 5 finish, 6 visits), the room to lend (2 bytes), a node or action (1 byte), then five
+// slices, each a 2-byte length and its bytes: table, marking, guards or values, bounds, choice. What an operation doesn't take is empty. A line is the refusal, the place and the reply in hex, `-` where it is empty.
 // visits takes what pick does, and its line is `visits` and how many states the search visits: a search that gets worse is seen here.
 ghost use Prim.Native.Nat.{_≤_, _<_};
 ghost use lib.ListN.{length};
@@ -91,6 +91,7 @@ fn answer(
     table: &[u8],
     marking: &[u8],
     values: &[u8],
+    bounds: &[u8],
     choice: &[u8],
     out: &mut [u8],
 ) {
@@ -99,15 +100,21 @@ fn answer(
         return;
     }
     if operation == SHEET {
-        line(keshmirun::sheet(table, marking, values, out), out);
+        line(keshmirun::sheet(table, marking, values, bounds, out), out);
         return;
     }
     if operation == PICK {
-        line(keshmirun::pick(table, marking, values, node, out), out);
+        line(
+            keshmirun::pick(table, marking, values, bounds, node, out),
+            out,
+        );
         return;
     }
     if operation == STEP {
-        line(keshmirun::step(table, marking, values, choice, out), out);
+        line(
+            keshmirun::step(table, marking, values, bounds, choice, out),
+            out,
+        );
         return;
     }
     if operation == FINISH {
@@ -115,7 +122,7 @@ fn answer(
         return;
     }
     if operation == VISITS {
-        visited(keshmirun::visits(table, marking, values, node));
+        visited(keshmirun::visits(table, marking, values, bounds, node));
         return;
     }
     line(keshmirun::check(table), out);
@@ -126,6 +133,7 @@ fn call(
     table: &mut [u8],
     marking: &mut [u8],
     values: &mut [u8],
+    bounds: &mut [u8],
     choice: &mut [u8],
     out: &mut [u8],
 ) -> bool {
@@ -137,6 +145,7 @@ fn call(
     let n = slice(table);
     let m = slice(marking);
     let v = slice(values);
+    let x = slice(bounds);
     let k = slice(choice);
     if out.len() < room {
         return false;
@@ -147,6 +156,7 @@ fn call(
         &table[..n],
         &marking[..m],
         &values[..v],
+        &bounds[..x],
         &choice[..k],
         &mut out[..room],
     );
@@ -154,10 +164,17 @@ fn call(
 }
 
 // Answers call after call.
-fn run(table: &mut [u8], marking: &mut [u8], values: &mut [u8], choice: &mut [u8], out: &mut [u8]) {
+fn run(
+    table: &mut [u8],
+    marking: &mut [u8],
+    values: &mut [u8],
+    bounds: &mut [u8],
+    choice: &mut [u8],
+    out: &mut [u8],
+) {
     let mut left = MOST_CALLS;
     while 0 < left {
-        if !call(table, marking, values, choice, out) {
+        if !call(table, marking, values, bounds, choice, out) {
             return;
         }
         left -= 1;
@@ -168,7 +185,15 @@ fn main() {
     let mut table = io::large_buffer();
     let mut marking = io::large_buffer();
     let mut values = io::large_buffer();
+    let mut bounds = io::large_buffer();
     let mut choice = io::large_buffer();
     let mut out = io::large_buffer();
-    run(&mut table, &mut marking, &mut values, &mut choice, &mut out);
+    run(
+        &mut table,
+        &mut marking,
+        &mut values,
+        &mut bounds,
+        &mut choice,
+        &mut out,
+    );
 }

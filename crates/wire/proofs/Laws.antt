@@ -7,7 +7,7 @@ use native.Mathlib.Omega.{arith}
 use lib.ListN.{length, drop, set}
 use lib.Seq.{sets, sets-eq}
 use Rattle.paper.specs.Lists.{at}
-use Rattle.paper.proofs.Cursor.{wordAt}
+use Rattle.paper.specs.Bytes.{wordAt}
 
 pub halves : (s : List ℕ) (from high low : ℕ) → high ≡ at s from * 256 + at s (from + 1) → low ≡ at s (from + 2) * 256 + at s (from + 2 + 1) → high * 65536 + low ≡ wordAt s from
 halves s from high low h l = let n : from + 2 + 1 ≡ from + 3 = omega arith in let z = rw n at l in omega arith

@@ -6,9 +6,8 @@ ghost use Prim.Native.Nat.{ℕ, _+_, _*_, _-_, _%_, _^_, _≤_, _<_};
 ghost use lib.ListN.{length, take, drop};
 ghost use lib.Seq.{sets};
 ghost use Rattle.paper.specs.Lists.{at};
-ghost use Rattle.paper.specs.Bytes.{two, four};
+ghost use Rattle.paper.specs.Bytes.{two, four, wordAt};
 ghost use Rattle.paper.specs.Operations.{packed};
-ghost use Rattle.paper.proofs.Cursor.{wordAt};
 
 // A byte as a number that can be an index.
 pub fn wide(x: u8) -> usize

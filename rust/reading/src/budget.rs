@@ -1,4 +1,4 @@
-//! How many enumeration steps a call may take. The paper knows no such bound;
+//! How many enumeration steps a call may take. The paper knows no such limit;
 //! it lets a caller skip the few tables on which plain enumeration is slow.
 
 use crate::refusal::Refusal;

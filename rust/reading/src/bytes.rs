@@ -1,7 +1,14 @@
 //! Bytes as the paper writes them: length first, counts with values, big-endian.
 
-/// A 4-byte value. Values are only ever copied, so they stay bytes.
+/// A 4-byte value. Values are copied far more often than compared, so they stay
+/// bytes.
 pub type Value = [u8; 4];
+
+/// The number that this value is, which lies in bounds or not: "unsigned" by wish
+/// 1, and "Big-endian" like all the paper's numbers.
+pub fn unsigned(value: Value) -> u32 {
+    u32::from_be_bytes(value)
+}
 
 /// "Bytes 0-1 give the number of bytes after them, L; every 2-byte length here
 /// and later does so." The bytes after the length, if they are as many as it
@@ -58,7 +65,7 @@ impl<'a> Reader<'a> {
     }
 
     /// The next 4 bytes.
-    fn value(&mut self) -> Option<Value> {
+    pub fn value(&mut self) -> Option<Value> {
         Some([self.byte()?, self.byte()?, self.byte()?, self.byte()?])
     }
 

@@ -1,13 +1,15 @@
-//! A plain reading of the paper "Token flow, tables and markings".
+//! A plain reading of the paper "Token flow, tables and markings", with wish 1,
+//! "Guards that read the result", of the page "What customers ask next".
 //!
 //! Keshmirun runs the activity diagrams of card game tournaments. This crate
-//! says, sentence by sentence, what the paper promises of its six operations,
-//! so that an engine can be compared with it call by call. It is written to be
-//! read, not to be fast: an offer is a list entry, a choice is a list of end
-//! numbers, and pick tries the sets of ends one after another.
+//! says, sentence by sentence, what the paper and the wish promise of the six
+//! operations, so that an engine can be compared with it call by call. It is
+//! written to be read, not to be fast: an offer is a list entry, a choice is a
+//! list of end numbers, and pick tries the sets of ends one after another.
 //!
 //! The modules follow the paper's headings: `table`, `marking`, `offers`,
-//! `choices`, `operations`. `bytes`, `refusal` and `budget` are what these
+//! `choices`, `operations`. `terms` is the wish: what the guard bytes and the
+//! bounds list say together. `bytes`, `refusal` and `budget` are what these
 //! share. [`random`] makes tables, markings and whole events to compare on.
 
 #![forbid(unsafe_code)]
@@ -22,8 +24,9 @@ mod operations;
 pub mod random;
 mod refusal;
 mod table;
+mod terms;
 
 pub use operations::{
     check, finish, pick, pick_within, sheet, sheet_within, start, step, step_within, Answer, Board,
-    NO_NODE,
+    NO_BOUNDS, NO_NODE,
 };

@@ -3,8 +3,9 @@
 use crate::budget::{Budget, Stop};
 use crate::bytes::Value;
 use crate::marking::Marking;
-use crate::refusal::{require, Refusal, GUARDS, SIZE_PASSED};
+use crate::refusal::{require, Refusal, SIZE_PASSED};
 use crate::table::{is_control_node, is_object_node, Table, DECISION, JOIN, OBJECT};
+use crate::terms::Terms;
 
 /// "Sizes: at most 64 offers, 8 paths in an offer, 20 ends."
 pub const MOST_OFFERS: usize = 64;
@@ -43,7 +44,7 @@ pub struct Offer {
     pub makers: Vec<usize>,
 }
 
-/// All offers of a marking under its guards, and the ends among them.
+/// All offers of a marking on some terms, and the ends among them.
 #[derive(Debug)]
 pub struct Offers {
     /// All offers, those that were made from others after these.
@@ -56,25 +57,13 @@ pub struct Offers {
     pub ends: Vec<usize>,
 }
 
-/// "Guards come as e bytes, 0 or 1; an unguarded edge must have 1." Refusal 7, or
-/// for each edge whether an offer may go over it.
-pub fn read_guards(table: &Table, bytes: &[u8]) -> Result<Vec<bool>, Refusal> {
-    require(GUARDS, bytes.len() == table.edges.len())?;
-    let is_good = |edge: usize| match bytes[edge] {
-        0 => table.edges[edge].guarded == 1,
-        byte => byte == 1,
-    };
-    require(GUARDS, table.edge_numbers().all(is_good))?;
-    Ok(bytes.iter().map(|byte| *byte == 1).collect())
-}
-
 impl Offers {
-    /// All offers, or refusal 8. `is_open` says for each edge whether its guard
-    /// byte is 1: "No offer goes over an edge whose byte is 0."
+    /// All offers, or refusal 8. An offer is made only on an edge that the terms
+    /// allow it to go over.
     pub fn of(
         table: &Table,
         marking: &Marking,
-        is_open: &[bool],
+        terms: &Terms,
         budget: &mut Budget,
     ) -> Result<Offers, Stop> {
         let mut offers = Offers {
@@ -83,13 +72,14 @@ impl Offers {
             competing: Vec::new(),
             ends: Vec::new(),
         };
-        offers.add_first_offers(table, marking, is_open)?;
+        offers.add_first_offers(table, marking, terms)?;
         for node in table.control_nodes_in_flow_order() {
             for edge in table.outgoing(node) {
-                if is_open[edge] && table.kind(node) == JOIN {
-                    offers.add_joined_offers(table, node, edge, budget)?;
-                } else if is_open[edge] {
-                    offers.add_extended_offers(table, node, edge)?;
+                let offered = offers.allowed_over(table, node, edge, terms);
+                if table.kind(node) == JOIN {
+                    offers.add_joined_offers(table, edge, &offered, budget)?;
+                } else {
+                    offers.add_extended_offers(table, edge, &offered)?;
                 }
             }
         }
@@ -104,12 +94,13 @@ impl Offers {
         &mut self,
         table: &Table,
         marking: &Marking,
-        is_open: &[bool],
+        terms: &Terms,
     ) -> Result<(), Refusal> {
-        for edge in table.edge_numbers().filter(|edge| is_open[*edge]) {
+        for edge in table.edge_numbers() {
             let source = table.edges[edge].source;
             let oldest = marking.stocks[source].first().copied();
-            if marking.counts[edge] > 0 || oldest.is_some() {
+            let is_carried = marking.counts[edge] > 0 || oldest.is_some();
+            if is_carried && terms.allow(edge, oldest) {
                 let paths = vec![vec![edge as u8]];
                 self.add(table, edge, Origin::First, oldest, paths)?;
             }
@@ -117,39 +108,56 @@ impl Offers {
         Ok(())
     }
 
-    /// "Decision, merge, fork: each incoming offer is extended over each outgoing
-    /// edge." Here, over the outgoing edge `edge`.
-    fn add_extended_offers(
-        &mut self,
+    /// For each incoming edge of this control node, the offers on it that the terms
+    /// allow over the outgoing edge `edge`. Each is asked with its own value, which
+    /// it goes on with; so it is at a join too: "The value is that of the object
+    /// edge's offer", and the other edges' offers have none.
+    fn allowed_over(
+        &self,
         table: &Table,
         node: usize,
         edge: usize,
-    ) -> Result<(), Refusal> {
+        terms: &Terms,
+    ) -> Vec<Vec<usize>> {
+        let mut offered = Vec::new();
         for incoming in table.incoming(node) {
-            for offer in self.on_edge(incoming) {
-                let value = self.list[offer].value;
-                let paths = self.extended_paths(&[offer], edge);
-                self.add(table, edge, Origin::Extended(offer), value, paths)?;
-            }
+            let mut offers = self.on_edge(incoming);
+            offers.retain(|offer| terms.allow(edge, self.list[*offer].value));
+            offered.push(offers);
+        }
+        offered
+    }
+
+    /// "Decision, merge, fork: each incoming offer is extended over each outgoing
+    /// edge." Here, those of `offered` over the outgoing edge `edge`.
+    fn add_extended_offers(
+        &mut self,
+        table: &Table,
+        edge: usize,
+        offered: &[Vec<usize>],
+    ) -> Result<(), Refusal> {
+        for offer in offered.iter().flatten() {
+            let value = self.list[*offer].value;
+            let paths = self.extended_paths(&[*offer], edge);
+            self.add(table, edge, Origin::Extended(*offer), value, paths)?;
         }
         Ok(())
     }
 
     /// "Join: for each way of taking one offer from every incoming edge, no two
-    /// competing, all their paths are extended over the outgoing edge."
+    /// competing, all their paths are extended over the outgoing edge." Here, one
+    /// from each of `offered` over `edge`.
     fn add_joined_offers(
         &mut self,
         table: &Table,
-        join: usize,
         edge: usize,
+        offered: &[Vec<usize>],
         budget: &mut Budget,
     ) -> Result<(), Stop> {
-        let incoming = table.incoming(join).into_iter();
-        let offered: Vec<Vec<usize>> = incoming.map(|edge| self.on_edge(edge)).collect();
         if offered.iter().any(|offers| offers.is_empty()) {
             return Ok(()); // an edge has nothing to take, so there is no way
         }
-        self.add_ways(table, edge, &offered, &mut Vec::new(), budget)
+        self.add_ways(table, edge, offered, &mut Vec::new(), budget)
     }
 
     /// Adds the joined offer of every way that begins with `way`, an offer from

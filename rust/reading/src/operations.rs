@@ -2,25 +2,28 @@
 //!
 //! "The lowest number that applies to the operation is given": every function
 //! here judges its refusals in the order of their numbers and stops at the first.
+//! Only 18 is not judged last: wish 1 puts it "after 7 and before 8".
 
 use crate::budget::{Budget, Stop};
 use crate::bytes::{with_length, Reader, Value};
 use crate::choices::Choices;
 use crate::marking::Marking;
-use crate::offers::{read_guards, Offers};
+use crate::offers::Offers;
 use crate::refusal::{
     require, Refusal, MARKING_ENDED, NOT_RUNNING, NO_PICK, OUTPUT_SHORT, TOO_FULL, VALUE_LIST,
 };
 use crate::table::{Table, ACTION, INCOMING_PARAMETER, INITIAL, INPUT_PIN, MOST_UPPER, OUTPUT_PIN};
+use crate::terms::Terms;
 
 /// What an operation answers.
 #[derive(Debug, Clone, PartialEq, Eq)]
 pub enum Answer {
-    /// The call is refused, with the paper's number and place.
+    /// The call is refused, with the number and place of the paper, or for 18 of
+    /// wish 1.
     Refused {
-        /// The refusal's number, 1 to 17.
+        /// The refusal's number, 1 to 18.
         number: u8,
-        /// The refusal's place, 0 where the paper gives 0.
+        /// The refusal's place, 0 where they give 0.
         place: u8,
     },
     /// The call succeeds. These are the reply's bytes, none for check.
@@ -29,6 +32,10 @@ pub enum Answer {
 
 /// "a node number, or 255 for none named"
 pub const NO_NODE: u8 = 255;
+
+/// The bounds list that lists no edge: "With count 0, which the program passes,
+/// all answers are today's".
+pub const NO_BOUNDS: [u8; 4] = [0, 2, 1, 0];
 
 /// "check: table. Writes nothing."
 pub fn check(table: &[u8]) -> Answer {
@@ -45,20 +52,36 @@ pub fn start(table: &[u8], values: &[u8], room: usize) -> Answer {
 /// "sheet: table, marking, guards. Writes length (2), version 1, number of ends,
 /// then per end: last edge, 1 or 0 for value or none, 4 value bytes (zero if
 /// none), number of paths, and per path, in sorted order, its length and edges."
-pub fn sheet(table: &[u8], marking: &[u8], guards: &[u8], room: usize) -> Answer {
-    unbounded(|steps| sheet_within(table, marking, guards, room, steps))
+/// And by wish 1: "Beside the guard bytes, sheet, pick and step take a bounds
+/// list".
+pub fn sheet(table: &[u8], marking: &[u8], guards: &[u8], bounds: &[u8], room: usize) -> Answer {
+    unbudgeted(|steps| sheet_within(table, marking, guards, bounds, room, steps))
 }
 
 /// "pick: as sheet, with a node number, or 255 for none named. Writes a choice."
 /// The first acceptable choice, and if a node is named, the first that has an end
 /// of it.
-pub fn pick(table: &[u8], marking: &[u8], guards: &[u8], node: u8, room: usize) -> Answer {
-    unbounded(|steps| pick_within(table, marking, guards, node, room, steps))
+pub fn pick(
+    table: &[u8],
+    marking: &[u8],
+    guards: &[u8],
+    bounds: &[u8],
+    node: u8,
+    room: usize,
+) -> Answer {
+    unbudgeted(|steps| pick_within(table, marking, guards, bounds, node, room, steps))
 }
 
 /// "step: as sheet, with a choice. Writes the marking."
-pub fn step(table: &[u8], marking: &[u8], guards: &[u8], choice: &[u8], room: usize) -> Answer {
-    unbounded(|steps| step_within(table, marking, guards, choice, room, steps))
+pub fn step(
+    table: &[u8],
+    marking: &[u8],
+    guards: &[u8],
+    bounds: &[u8],
+    choice: &[u8],
+    room: usize,
+) -> Answer {
+    unbudgeted(|steps| step_within(table, marking, guards, bounds, choice, room, steps))
 }
 
 /// "finish: table, marking, action, and per output pin in order a count and
@@ -74,12 +97,13 @@ pub fn sheet_within(
     table: &[u8],
     marking: &[u8],
     guards: &[u8],
+    bounds: &[u8],
     room: usize,
     budget: u64,
 ) -> Option<Answer> {
     let mut budget = Budget::new(budget);
-    bounded_answer(
-        Board::of(table, marking, guards, &mut budget)
+    budgeted_answer(
+        Board::of(table, marking, guards, bounds, &mut budget)
             .and_then(|board| Ok(fit(written_sheet(&board.offers), room)?)),
     )
 }
@@ -89,13 +113,14 @@ pub fn pick_within(
     table: &[u8],
     marking: &[u8],
     guards: &[u8],
+    bounds: &[u8],
     node: u8,
     room: usize,
     budget: u64,
 ) -> Option<Answer> {
     let mut budget = Budget::new(budget);
-    bounded_answer(
-        Board::of(table, marking, guards, &mut budget)
+    budgeted_answer(
+        Board::of(table, marking, guards, bounds, &mut budget)
             .and_then(|board| board.picked(node, room, &mut budget)),
     )
 }
@@ -105,19 +130,20 @@ pub fn step_within(
     table: &[u8],
     marking: &[u8],
     guards: &[u8],
+    bounds: &[u8],
     choice: &[u8],
     room: usize,
     budget: u64,
 ) -> Option<Answer> {
     let mut budget = Budget::new(budget);
-    bounded_answer(
-        Board::of(table, marking, guards, &mut budget)
+    budgeted_answer(
+        Board::of(table, marking, guards, bounds, &mut budget)
             .and_then(|board| Ok(board.stepped(choice, room)?)),
     )
 }
 
 /// What sheet, pick and step judge first: a table, a marking and the offers under
-/// some guards. Read once, so that many choices can be tried on it.
+/// some guards and bounds. Read once, so that many choices can be tried on it.
 #[derive(Debug)]
 pub struct Board {
     table: Table,
@@ -126,26 +152,33 @@ pub struct Board {
 }
 
 impl Board {
-    /// The board of these, or the refusal from 1 to 8 that sheet, pick and step
+    /// The board of these, or the refusal, 1 to 8 or 18, that sheet, pick and step
     /// share; `None` if it takes more than `budget` enumeration steps.
     pub fn within(
         table: &[u8],
         marking: &[u8],
         guards: &[u8],
+        bounds: &[u8],
         budget: u64,
     ) -> Option<Result<Board, Answer>> {
-        match Board::of(table, marking, guards, &mut Budget::new(budget)) {
+        match Board::of(table, marking, guards, bounds, &mut Budget::new(budget)) {
             Ok(board) => Some(Ok(board)),
-            Err(stop) => bounded_answer(Err(stop)).map(Err),
+            Err(stop) => budgeted_answer(Err(stop)).map(Err),
         }
     }
 
-    /// Refusals 1 to 8, or the board.
-    fn of(table: &[u8], marking: &[u8], guards: &[u8], budget: &mut Budget) -> Result<Board, Stop> {
+    /// Refusals 1 to 7, then 18, then 8, or the board.
+    fn of(
+        table: &[u8],
+        marking: &[u8],
+        guards: &[u8],
+        bounds: &[u8],
+        budget: &mut Budget,
+    ) -> Result<Board, Stop> {
         let table = Table::read(table)?;
         let marking = live_marking(&table, marking)?;
-        let is_open = read_guards(&table, guards)?;
-        let offers = Offers::of(&table, &marking, &is_open, budget)?;
+        let terms = Terms::read(&table, guards, bounds)?;
+        let offers = Offers::of(&table, &marking, &terms, budget)?;
         Ok(Board {
             table,
             marking,
@@ -182,7 +215,7 @@ impl Board {
     /// What [`pick`] answers here, `None` if it takes more than `budget`
     /// enumeration steps.
     pub fn pick_within(&self, node: u8, room: usize, budget: u64) -> Option<Answer> {
-        bounded_answer(self.picked(node, room, &mut Budget::new(budget)))
+        budgeted_answer(self.picked(node, room, &mut Budget::new(budget)))
     }
 
     /// The marking that step writes.
@@ -325,7 +358,7 @@ fn answer(reply: Result<Vec<u8>, Refusal>) -> Answer {
 }
 
 /// The answer of an operation with a budget.
-fn bounded_answer(reply: Result<Vec<u8>, Stop>) -> Option<Answer> {
+fn budgeted_answer(reply: Result<Vec<u8>, Stop>) -> Option<Answer> {
     match reply {
         Ok(bytes) => Some(answer(Ok(bytes))),
         Err(Stop::Refused(refusal)) => Some(answer(Err(refusal))),
@@ -334,7 +367,7 @@ fn bounded_answer(reply: Result<Vec<u8>, Stop>) -> Option<Answer> {
 }
 
 /// The answer with a budget that no call uses up.
-fn unbounded(operation: impl Fn(u64) -> Option<Answer>) -> Answer {
+fn unbudgeted(operation: impl Fn(u64) -> Option<Answer>) -> Answer {
     loop {
         if let Some(answer) = operation(u64::MAX) {
             return answer;

@@ -3,11 +3,13 @@
 //! All of it follows from the seed, so that a difference found once is found
 //! again. The functions take any bytes and never panic.
 
+mod bounds_list;
 mod damage;
 mod event;
 mod parts;
 mod tables;
 
+pub use bounds_list::bounds;
 pub use damage::{damaged, damaged_bytes};
 pub use event::{choice, guards, marking, outputs, values, Event};
 pub use parts::Parts;

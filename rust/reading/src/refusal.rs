@@ -1,4 +1,5 @@
-//! The refusals of the paper's table of numbers, and two ways to ask for them.
+//! The refusals of the paper's table of numbers and of the customers' wish 1, and
+//! two ways to ask for them.
 
 use std::ops::Range;
 
@@ -45,6 +46,8 @@ pub const VALUE_LIST: u8 = 15;
 pub const TOO_FULL: u8 = 16;
 /// 17: lent output shorter than the reply.
 pub const OUTPUT_SHORT: u8 = 17;
+/// 18: bad bounds list (also low above high). It comes "after 7 and before 8".
+pub const BOUNDS: u8 = 18;
 
 impl Refusal {
     /// The refusal of this number at this place.

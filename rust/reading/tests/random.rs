@@ -3,13 +3,13 @@
 
 mod common;
 
-use common::{number, reply, ROOM};
+use common::{number, reply, MOST, ROOM};
 use reading::random::{self, Event, Parts, Rng};
 use reading::{
     check, finish, pick, pick_within, sheet, sheet_within, start, step, step_within, Answer,
-    NO_NODE,
+    NO_BOUNDS, NO_NODE,
 };
-use std::collections::BTreeSet;
+use std::collections::{BTreeMap, BTreeSet};
 
 /// Enumeration steps per call, so that no point takes long.
 const BUDGET: u64 = 2_000;
@@ -74,7 +74,7 @@ fn the_same_seed_gives_the_same_event() {
         let mut rng = Rng::new(seed);
         let mut event = Event::begin(&mut rng);
         while event.go_on(&mut rng) {}
-        (event.table, event.marking, event.guards)
+        (event.table, event.marking, event.guards, event.bounds)
     };
     assert_eq!(play(7), play(7));
     assert_ne!(play(7), play(8));
@@ -97,7 +97,7 @@ fn for_each_point(seed: u64, events: usize, mut visit: impl FnMut(&mut Rng, &Eve
 
 /// What a random call at this point answers, `None` if it takes too long.
 fn random_call(rng: &mut Rng, event: &Event) -> Option<Answer> {
-    let (table, guards) = (&event.table, &event.guards);
+    let (table, guards, bounds) = (&event.table, &event.guards, &event.bounds);
     let marking = match rng.below(20) {
         0 => random::damaged_bytes(rng, &event.marking),
         _ => event.marking.clone(),
@@ -108,11 +108,14 @@ fn random_call(rng: &mut Rng, event: &Event) -> Option<Answer> {
     };
     match rng.below(5) {
         0 => Some(start(table, &random::values(rng, table), room)),
-        1 => sheet_within(table, &marking, guards, room, BUDGET),
-        2 => pick_within(table, &marking, guards, event.node(rng), room, BUDGET),
+        1 => sheet_within(table, &marking, guards, bounds, room, BUDGET),
+        2 => {
+            let node = event.node(rng);
+            pick_within(table, &marking, guards, bounds, node, room, BUDGET)
+        }
         3 => {
             let choice = random::choice(rng, event.ends().unwrap_or(1));
-            step_within(table, &marking, guards, &choice, room, BUDGET)
+            step_within(table, &marking, guards, bounds, &choice, room, BUDGET)
         }
         _ => {
             let running = event.running();
@@ -126,7 +129,7 @@ fn random_call(rng: &mut Rng, event: &Event) -> Option<Answer> {
 
 #[test]
 fn random_events_reach_every_refusal() {
-    let mut counts = [0; 18];
+    let mut counts = [0; 19];
     let mut skipped = 0;
     for_each_point(3, 500, |rng, event| {
         for _ in 0..3 {
@@ -136,7 +139,7 @@ fn random_events_reach_every_refusal() {
             }
         }
     });
-    println!("good and refusals 1 to 17: {counts:?}, skipped {skipped}");
+    println!("good and refusals 1 to 18: {counts:?}, skipped {skipped}");
     assert_eq!(counts[1..=4], [0; 4]);
     assert!(counts[5..].iter().all(|count| *count >= 40), "{counts:?}");
     assert!(counts[0] >= 2_000);
@@ -147,7 +150,14 @@ fn random_events_reach_every_refusal() {
 fn every_marking_written_is_a_marking() {
     for_each_point(4, 200, |_, event| {
         let guards = vec![1; usize::from(event.table[4])];
-        let answer = sheet_within(&event.table, &event.marking, &guards, ROOM, BUDGET);
+        let answer = sheet_within(
+            &event.table,
+            &event.marking,
+            &guards,
+            &NO_BOUNDS,
+            ROOM,
+            BUDGET,
+        );
         assert!(!matches!(answer.as_ref().map(number), Some(5)), "{event:?}");
     });
 }
@@ -171,7 +181,10 @@ fn pick_is_the_first_acceptable_choice() {
 /// Compares pick with step, tried on all sets of ends. The lowest end is the
 /// highest bit, so that a choice comes earlier the higher its number is.
 fn compare_pick(event: &Event, ends: u32, node: u8) {
-    let (table, marking, guards) = (&event.table, &event.marking, &event.guards);
+    let (table, marking) = (&event.table, &event.marking);
+    let (guards, bounds) = (&event.guards, &event.bounds);
+    let is_accepted =
+        |choice: &[u8]| number(&step(table, marking, guards, bounds, choice, ROOM)) == 0;
     let choice_of = |set: u32| -> Vec<u8> {
         let holds = |end: &u32| set >> (ends - 1 - end) & 1 == 1;
         (0..ends).filter(holds).map(|end| end as u8).collect()
@@ -181,37 +194,252 @@ fn compare_pick(event: &Event, ends: u32, node: u8) {
         let has_node = choice
             .iter()
             .any(|end| targets[usize::from(*end)].contains(&node));
-        (node == NO_NODE || has_node) && number(&step(table, marking, guards, choice, ROOM)) == 0
+        (node == NO_NODE || has_node) && is_accepted(choice)
     });
     let expected = match first {
         Some(choice) => Answer::Good(choice),
         None => common::refused(13, node),
     };
-    assert_eq!(pick(table, marking, guards, node, ROOM), expected);
+    assert_eq!(pick(table, marking, guards, bounds, node, ROOM), expected);
 }
 
 /// For each end the nodes it belongs to: the target of its last edge and, for a
 /// pin, its action.
 fn targets(event: &Event) -> Vec<Vec<u8>> {
     let parts = Parts::of(&event.table).unwrap();
-    let sheet = reply(sheet(&event.table, &event.marking, &event.guards, ROOM));
-    let mut targets = Vec::new();
-    let mut place = 4;
-    while place < sheet.len() {
-        let target = parts.edges[usize::from(sheet[place])][2];
+    let (table, marking) = (&event.table, &event.marking);
+    let sheet = reply(sheet(table, marking, &event.guards, &event.bounds, ROOM));
+    let nodes_of = |end: End| {
+        let target = parts.edges[usize::from(end.record[0])][2];
         let [kind, owner, ..] = parts.nodes[usize::from(target)];
-        targets.push(if kind == 3 {
+        if kind == 3 {
             vec![target, owner]
         } else {
             vec![target]
-        });
-        let paths = sheet[place + 6];
+        }
+    };
+    ends_of(&sheet).into_iter().map(nodes_of).collect()
+}
+
+/// An end as a sheet writes it.
+#[derive(Debug, PartialEq)]
+struct End {
+    /// All its bytes: last edge, flag, value, paths.
+    record: Vec<u8>,
+    /// Its value, 0 if it has none.
+    value: u32,
+    /// The edges of all its paths.
+    edges: Vec<u8>,
+}
+
+/// The ends of a sheet.
+fn ends_of(sheet: &[u8]) -> Vec<End> {
+    let mut ends = Vec::new();
+    let mut place = 4;
+    while place < sheet.len() {
+        let first = place;
+        let mut edges = Vec::new();
         place += 7;
-        for _ in 0..paths {
-            place += 1 + usize::from(sheet[place]);
+        for _ in 0..sheet[first + 6] {
+            let next = place + 1 + usize::from(sheet[place]);
+            edges.extend_from_slice(&sheet[place + 1..next]);
+            place = next;
+        }
+        ends.push(End {
+            record: sheet[first..place].to_vec(),
+            value: big_endian(&sheet[first + 2..first + 6]),
+            edges,
+        });
+    }
+    ends
+}
+
+/// The number in these bytes.
+fn big_endian(bytes: &[u8]) -> u32 {
+    bytes
+        .iter()
+        .fold(0, |number, byte| number << 8 | u32::from(*byte))
+}
+
+/// The entries of a bounds list, as many as are whole: edge, low, high.
+fn entries_of(list: &[u8]) -> Vec<(u8, u32, u32)> {
+    let records = list.get(4..).unwrap_or(&[]).chunks_exact(9);
+    records
+        .map(|record| {
+            (
+                record[0],
+                big_endian(&record[1..5]),
+                big_endian(&record[5..9]),
+            )
+        })
+        .collect()
+}
+
+#[test]
+fn bounds_bar_exactly_the_ends_with_a_value_outside_on_their_paths() {
+    let (mut compared, mut barred) = (0, 0);
+    let mut near = [0; 8];
+    for_each_point(7, 400, |_, event| {
+        let sheet_under = |bounds: &[u8]| {
+            let (table, marking) = (&event.table, &event.marking);
+            sheet_within(table, marking, &event.guards, bounds, ROOM, BUDGET)
+        };
+        let all = sheet_under(&NO_BOUNDS);
+        let left = sheet_under(&event.bounds);
+        if let (Some(Answer::Good(all)), Some(Answer::Good(left))) = (all, left) {
+            let entries = entries_of(&event.bounds);
+            let mut expected = ends_of(&all);
+            for end in &expected {
+                count_near(end, &entries, &mut near);
+            }
+            expected.retain(|end| lies_in_bounds(end, &entries));
+            assert_eq!(ends_of(&left), expected, "{event:?}");
+            compared += 1;
+            barred += usize::from(all != left);
+        }
+    });
+    println!("sheets compared: {compared}, with ends barred: {barred}, values near: {near:?}");
+    assert!(compared >= 2_500);
+    assert!(barred >= 500);
+    assert!(near.iter().all(|count| *count >= 20), "{near:?}");
+}
+
+/// Whether the end's value lies in the bounds of each listed edge on its paths. A
+/// value is the same all the way, and no path to an end without a value has an
+/// object edge.
+fn lies_in_bounds(end: &End, entries: &[(u8, u32, u32)]) -> bool {
+    let mut on_paths = entries.iter().filter(|(edge, ..)| end.edges.contains(edge));
+    on_paths.all(|(_, low, high)| (*low..=*high).contains(&end.value))
+}
+
+/// Counts how the end's value lies to the bounds on its paths: equal to low, one
+/// below it, equal to high, one above it, equal to both, in the whole range; and
+/// whether it is 0 or 4294967295.
+fn count_near(end: &End, entries: &[(u8, u32, u32)], near: &mut [usize; 8]) {
+    let value = u64::from(end.value);
+    for (edge, low, high) in entries {
+        let (low, high) = (u64::from(*low), u64::from(*high));
+        let is_so = [
+            value == low,
+            value + 1 == low,
+            value == high,
+            value == high + 1,
+            value == low && value == high,
+            low == 0 && high == u64::from(MOST),
+            value == 0,
+            value == u64::from(MOST),
+        ];
+        for (count, is_so) in near.iter_mut().zip(is_so) {
+            *count += usize::from(is_so && end.edges.contains(edge));
         }
     }
-    targets
+}
+
+#[test]
+fn random_bounds_lists_are_good_or_bad_in_every_way() {
+    let mut rng = Rng::new(8);
+    let (mut empty, mut listing) = (0, 0);
+    let mut bad = BTreeMap::new();
+    for _ in 0..4_000 {
+        let table = random::table(&mut rng);
+        let parts = Parts::of(&table).unwrap();
+        let marking = live_marking(&mut rng, &table);
+        let guards = vec![1; parts.edges.len()];
+        for _ in 0..10 {
+            let list = random::bounds(&mut rng, &table, &marking);
+            let answer = sheet_within(&table, &marking, &guards, &list, ROOM, BUDGET);
+            let is_refused = answer == Some(common::refused(18, 0));
+            let fault = fault_of(&list, &parts);
+            assert_eq!(is_refused, fault.is_some(), "{list:?} {fault:?}");
+            match fault {
+                Some(fault) => *bad.entry(fault).or_insert(0) += 1,
+                None if list == NO_BOUNDS => empty += 1,
+                None => listing += 1,
+            }
+        }
+    }
+    println!("lists with count 0: {empty}, that list edges: {listing}, bad: {bad:?}");
+    let refused: i32 = bad.values().sum();
+    assert!((12_000..15_000).contains(&empty));
+    assert!((24_000..27_000).contains(&listing));
+    assert!((900..1_300).contains(&refused));
+    assert!(
+        bad.len() == 10 && bad.values().all(|count| *count >= 40),
+        "{bad:?}"
+    );
+}
+
+/// A random marking of this table that is not ended.
+fn live_marking(rng: &mut Rng, table: &[u8]) -> Vec<u8> {
+    loop {
+        let marking = random::marking(rng, table);
+        if marking[3] == 0 {
+            return marking;
+        }
+    }
+}
+
+/// What is wrong with this bounds list, the first of these things, if any is.
+fn fault_of(list: &[u8], parts: &Parts) -> Option<&'static str> {
+    if list.is_empty() {
+        return Some("no bytes");
+    }
+    if list.len() < 2 || list.len() - 2 != big_endian(&list[..2]) as usize {
+        return Some("length");
+    }
+    if list.get(2) != Some(&1) {
+        return Some("version");
+    }
+    let asked_for = list.get(3).map_or(4, |count| 4 + 9 * usize::from(*count));
+    if list.len() < asked_for {
+        return Some("cut");
+    }
+    if list.len() > asked_for {
+        return Some("bytes left over");
+    }
+    fault_of_entries(&entries_of(list), parts)
+}
+
+/// The same for the entries of a list of which nothing is cut.
+fn fault_of_entries(entries: &[(u8, u32, u32)], parts: &Parts) -> Option<&'static str> {
+    let kind_of = |edge: u8| parts.edges.get(usize::from(edge)).map(|record| record[0]);
+    if entries.iter().any(|(edge, ..)| kind_of(*edge).is_none()) {
+        return Some("no such edge");
+    }
+    if entries.iter().any(|(edge, ..)| kind_of(*edge) == Some(0)) {
+        return Some("a control edge");
+    }
+    if entries.windows(2).any(|pair| pair[0].0 == pair[1].0) {
+        return Some("an edge twice");
+    }
+    if entries.windows(2).any(|pair| pair[0].0 > pair[1].0) {
+        return Some("edges falling");
+    }
+    if entries.iter().any(|(_, low, high)| low > high) {
+        return Some("low above high");
+    }
+    None
+}
+
+#[test]
+fn most_events_move_on_under_bounds() {
+    let (mut movable, mut left) = (0, 0);
+    for_each_point(9, 300, |_, event| {
+        let can_move = |bounds: &[u8]| {
+            let (table, marking) = (&event.table, &event.marking);
+            match pick_within(table, marking, &event.guards, bounds, NO_NODE, ROOM, BUDGET) {
+                Some(Answer::Good(choice)) => !choice.is_empty(),
+                _ => false,
+            }
+        };
+        if can_move(&NO_BOUNDS) {
+            movable += 1;
+            left += usize::from(can_move(&event.bounds));
+        }
+    });
+    println!("points with a move: {movable}, left under bounds: {left}");
+    assert!(movable >= 600);
+    assert!(10 * left >= 8 * movable && left < movable);
 }
 
 #[test]
@@ -222,6 +450,7 @@ fn no_bytes_are_too_strange() {
         let table = random::damaged(&mut rng, &event.table);
         let marking = random::damaged_bytes(&mut rng, &event.marking);
         let guards = random::damaged_bytes(&mut rng, &event.guards);
+        let bounds = random::damaged_bytes(&mut rng, &event.bounds);
         let bytes: Vec<u8> = (0..rng.below(40)).map(|_| rng.byte()).collect();
         let (node, room) = (rng.byte(), rng.below(100));
         let table = if rng.percent(50) {
@@ -239,15 +468,23 @@ fn no_bytes_are_too_strange() {
         } else {
             &guards
         };
+        let bounds = if rng.percent(50) {
+            &event.bounds
+        } else {
+            &bounds
+        };
         check(&bytes);
         start(table, &bytes, room);
-        sheet_within(table, marking, guards, room, BUDGET);
-        pick_within(table, marking, guards, node, room, BUDGET);
-        step_within(table, marking, guards, &bytes, room, BUDGET);
+        sheet_within(table, marking, guards, bounds, room, BUDGET);
+        sheet_within(table, marking, guards, &bytes, room, BUDGET);
+        pick_within(table, marking, guards, bounds, node, room, BUDGET);
+        step_within(table, marking, guards, bounds, &bytes, room, BUDGET);
         finish(table, marking, node, &bytes, room);
         random::values(&mut rng, &bytes);
         random::marking(&mut rng, &bytes);
         random::guards(&mut rng, &bytes);
+        random::bounds(&mut rng, &bytes, marking);
+        random::bounds(&mut rng, table, &bytes);
         random::outputs(&mut rng, table, &bytes, node);
         random::damaged(&mut rng, &bytes);
         let mut strange = Event::at(&mut rng, table.clone(), marking.clone());

@@ -59,7 +59,7 @@ pub fn room(rng: &mut Rng, full: &Answer) -> usize {
     }
 }
 
-/// What an answer with room to spare becomes in this room: 17 is the highest number, so every other refusal stays.
+/// What an answer with room to spare becomes in this room: 17 is judged last, so every other refusal stays.
 pub fn within(room: usize, full: Answer) -> Answer {
     match full {
         Answer::Good(reply) if reply.len() > room => Answer::Refused { number: 17, place: 0 },
@@ -88,11 +88,22 @@ pub fn called(
     answer
 }
 
-/// How often each answer came, 0 good, else the refusal's number; at which places; and how many calls the reading left out.
+/// What the engine answers in room to spare.
+pub fn answered(operation: impl FnOnce(&mut [u8]) -> Result<usize, Refusal>) -> Answer {
+    let mut out = [0; 4096];
+    match operation(&mut out) {
+        Ok(length) => Answer::Good(out[..length].to_vec()),
+        Err(Refusal { number, place }) => Answer::Refused { number, place },
+    }
+}
+
+/// How often each answer came, 0 good, else the refusal's number; at which places; how many answers the bounds made others; and how many calls the reading
+/// left out.
 #[derive(Debug, Default)]
 pub struct Seen {
-    counts: [usize; 18],
-    places: [BTreeSet<u8>; 18],
+    counts: [usize; 19],
+    places: [BTreeSet<u8>; 19],
+    bounded: usize,
     skipped: usize,
 }
 
@@ -101,6 +112,12 @@ impl Seen {
         let refusal = answer.err().unwrap_or(Refusal { number: 0, place: 0 });
         self.counts[usize::from(refusal.number)] += 1;
         self.places[usize::from(refusal.number)].insert(refusal.place);
+    }
+
+    /// Counts an answer in room to spare that a good bounds list made another than the same call without bounds has.
+    pub fn note_bounds(&mut self, full: &Answer, without: impl FnOnce(&mut [u8]) -> Result<usize, Refusal>) {
+        let is_refused = matches!(full, Answer::Refused { number: 18, .. });
+        self.bounded += usize::from(!is_refused && answered(without) != *full);
     }
 
     /// A call whose answer the reading didn't find within its steps.
@@ -116,6 +133,11 @@ impl Seen {
     pub fn assert_each(&self, least: usize, numbers: &[usize]) {
         assert!(numbers.iter().all(|&number| self.counts[number] >= least), "{self:?}");
         assert!(self.skipped * 1_000 <= self.calls(), "{self:?}");
+    }
+
+    /// So many answers were others than without bounds.
+    pub fn assert_bounded(&self, least: usize) {
+        assert!(self.bounded >= least, "{self:?}");
     }
 
     /// Every one of these refusals came at so many places.

@@ -1,6 +1,6 @@
 //! Points of random events at which sheet, pick and step are called.
 
-use reading::random::{damaged, damaged_bytes, guards, Event, Rng};
+use reading::random::{bounds, damaged, damaged_bytes, guards, Event, Rng};
 
 /// How many enumeration steps the reading may take for a call; what passes them is skipped, and counted.
 pub const BUDGET: u64 = 20_000;
@@ -27,14 +27,16 @@ impl Walk {
     }
 }
 
-/// The same point under other guards, and once in five times with a damaged table, marking or guards.
+/// The same point under other guards and bounds, and once in four times with a damaged table, marking, guards or bounds list.
 pub fn varied(rng: &mut Rng, event: &Event) -> Event {
     let mut event = event.clone();
     event.guards = guards(rng, &event.table);
-    match rng.below(15) {
+    event.bounds = bounds(rng, &event.table, &event.marking);
+    match rng.below(16) {
         0 => event.table = damaged(rng, &event.table),
         1 => event.marking = damaged_bytes(rng, &event.marking),
         2 => event.guards = damaged_bytes(rng, &event.guards),
+        3 => event.bounds = damaged_bytes(rng, &event.bounds),
         _ => {}
     }
     event

@@ -1,5 +1,5 @@
 //! A second way to pick, written apart from the plain reading: makers and sets of ends are words, the three rules are counts over sets of ends, and a search
-//! leaves a branch where no acceptable choice goes on. It takes good tables, live markings of them and legal guards.
+//! leaves a branch where no acceptable choice goes on. It takes good tables, live markings of them, legal guards and good bounds lists.
 
 use reading::random::Parts;
 
@@ -17,20 +17,23 @@ fn is_control_node(kind: u8) -> bool {
     (8..=11).contains(&kind)
 }
 
-/// What a marking says: per node its stock's size and whether it runs, per edge its tokens.
+/// What a marking says: per node its stock's size, its oldest value and whether it runs, per edge its tokens.
 struct Held {
     stock: Vec<u8>,
+    oldest: Vec<Option<u32>>,
     runs: Vec<bool>,
     tokens: Vec<u8>,
 }
 
 impl Held {
     fn read(parts: &Parts, marking: &[u8]) -> Held {
-        let mut held = Held { stock: vec![0; parts.nodes.len()], runs: vec![false; parts.nodes.len()], tokens: vec![0; parts.edges.len()] };
+        let (nodes, edges) = (parts.nodes.len(), parts.edges.len());
+        let mut held = Held { stock: vec![0; nodes], oldest: vec![None; nodes], runs: vec![false; nodes], tokens: vec![0; edges] };
         let mut place = 4;
         for (node, [kind, ..]) in parts.nodes.iter().enumerate() {
             if is_object_node(*kind) {
                 held.stock[node] = marking[place];
+                held.oldest[node] = Some(number(&marking[place + 1..])).filter(|_| marking[place] > 0);
                 place += 1 + 4 * usize::from(marking[place]);
             } else if *kind == ACTION {
                 held.runs[node] = marking[place] == 1;
@@ -47,10 +50,28 @@ impl Held {
     }
 }
 
-/// An offer: its last edge, what it was made from, its makers as a word, and its paths in order.
+/// The number that these bytes begin with, 0 where they are too few.
+fn number(bytes: &[u8]) -> u32 {
+    match bytes {
+        [a, b, c, d, ..] => u32::from_be_bytes([*a, *b, *c, *d]),
+        _ => 0,
+    }
+}
+
+/// Per edge the least and the greatest value that may go over it.
+fn limits(edges: usize, bounds: &[u8]) -> Vec<(u32, u32)> {
+    let mut limits = vec![(0, u32::MAX); edges];
+    for entry in bounds[4..].chunks(9) {
+        limits[usize::from(entry[0])] = (number(&entry[1..]), number(&entry[5..]));
+    }
+    limits
+}
+
+/// An offer: its last edge, what it was made from, its value, its makers as a word, and its paths in order.
 struct Offer {
     edge: usize,
     from: Vec<usize>,
+    value: Option<u32>,
     makers: u64,
     paths: Vec<Vec<u8>>,
 }
@@ -67,6 +88,7 @@ pub struct Second {
     parts: Parts,
     held: Held,
     guards: Vec<u8>,
+    limits: Vec<(u32, u32)>,
     offers: Vec<Offer>,
     /// Per offer, those that are of sort (a), (b) or (c) with it.
     rivals: Vec<u64>,
@@ -79,11 +101,12 @@ pub struct Second {
 
 impl Second {
     /// None if a size is passed.
-    pub fn of(table: &[u8], marking: &[u8], guards: &[u8]) -> Option<Second> {
+    pub fn of(table: &[u8], marking: &[u8], guards: &[u8], bounds: &[u8]) -> Option<Second> {
         let parts = Parts::of(table)?;
         let mut second = Second {
             held: Held::read(&parts, marking),
             guards: guards.to_vec(),
+            limits: limits(parts.edges.len(), bounds),
             offers: Vec::new(),
             rivals: Vec::new(),
             made: vec![None; parts.edges.len()],
@@ -127,17 +150,24 @@ impl Second {
         let mut ways: Vec<Vec<usize>> = Vec::new();
         if is_control_node(self.kind(source)) {
             let lists: Option<Vec<Vec<usize>>> = self.incoming(source).into_iter().map(|incoming| self.offers_on(incoming)).collect();
+            let mut lists = lists?;
+            lists.iter_mut().for_each(|list| list.retain(|offer| self.may_go(edge, self.offers[*offer].value)));
             match self.kind(source) {
-                JOIN => self.add_ways(&lists?, 0, &mut Vec::new(), &mut ways),
-                _ => ways = lists?.concat().into_iter().map(|offer| vec![offer]).collect(),
+                JOIN => self.add_ways(&lists, 0, &mut Vec::new(), &mut ways),
+                _ => ways = lists.concat().into_iter().map(|offer| vec![offer]).collect(),
             }
-        } else if self.held.tokens[edge] > 0 || self.held.stock[source] > 0 {
+        } else if (self.held.tokens[edge] > 0 || self.held.stock[source] > 0) && self.may_go(edge, self.held.oldest[source]) {
             ways.push(Vec::new());
         }
-        ways.retain(|_| self.guards[edge] == 1);
         let made: Option<Vec<usize>> = ways.into_iter().map(|from| self.add(edge, from)).collect();
         self.made[edge] = made.clone();
         made
+    }
+
+    /// Whether an offer with this value goes over this edge.
+    fn may_go(&self, edge: usize, value: Option<u32>) -> bool {
+        let (low, high) = self.limits[edge];
+        self.guards[edge] == 1 && value.map_or(true, |value| low <= value && value <= high)
     }
 
     /// All ways of a join that go on from `way`, 65 at most: so many offers are too many already.
@@ -168,8 +198,12 @@ impl Second {
         if number == 64 || paths.len() > 8 {
             return None;
         }
+        let value = match from[..] {
+            [] => self.held.oldest[self.source(edge)],
+            _ => from.iter().find_map(|offer| self.offers[*offer].value),
+        };
         let makers = from.iter().fold(1 << number, |makers, offer| makers | self.offers[*offer].makers);
-        self.offers.push(Offer { edge, from, makers, paths });
+        self.offers.push(Offer { edge, from, value, makers, paths });
         self.rivals.push(0);
         for earlier in 0..number {
             if self.are_rivals(earlier, number) {

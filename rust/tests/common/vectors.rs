@@ -1,16 +1,17 @@
 //! The outside calls of crates/vectors, with their right answers, as the program `vectors` reads and writes them.
 
-use keshmirun::Refusal;
+use super::called;
+use keshmirun::{Refusal, Terms};
 use reading::Answer;
 use std::fs;
 use std::path::Path;
 
-/// A call: its operation, the room to lend, a node or action, and the four slices that the program reads: table, marking, guards or values, choice.
+/// A call: its operation, the room to lend, a node or action, and the five slices that the program reads: table, marking, guards or values, bounds, choice.
 pub struct Call {
     pub operation: Operation,
     pub room: usize,
     pub node: u8,
-    pub slices: [Vec<u8>; 4],
+    pub slices: [Vec<u8>; 5],
 }
 
 #[derive(Clone, Copy, Debug, PartialEq, Eq, PartialOrd, Ord)]
@@ -27,15 +28,21 @@ pub enum Operation {
 
 impl Operation {
     /// Makes this call, visits' by pick.
-    pub fn make(self, node: u8, [table, marking, given, choice]: [&[u8]; 4], out: &mut [u8]) -> Result<usize, Refusal> {
+    pub fn make(self, node: u8, [table, marking, given, bounds, choice]: [&[u8]; 5], out: &mut [u8]) -> Result<usize, Refusal> {
+        let terms = Terms::new(given).with_bounds(bounds);
         match self {
             Operation::Check => keshmirun::check(table).map(|()| 0),
             Operation::Start => keshmirun::start(table, given, out),
-            Operation::Sheet => keshmirun::sheet(table, marking, given, out),
-            Operation::Pick | Operation::Visits => keshmirun::pick(table, marking, given, node, out),
-            Operation::Step => keshmirun::step(table, marking, given, choice, out),
+            Operation::Sheet => keshmirun::sheet(table, marking, terms, out),
+            Operation::Pick | Operation::Visits => keshmirun::pick(table, marking, terms, node, out),
+            Operation::Step => keshmirun::step(table, marking, terms, choice, out),
             Operation::Finish => keshmirun::finish(table, marking, node, given, out),
         }
+    }
+
+    /// Makes this call on lent copies, and holds it to its answer.
+    pub fn hold(self, around: u8, node: u8, inputs: [&[u8]; 5], room: usize, expected: &Answer) -> Result<usize, Refusal> {
+        called(around, &inputs, room, expected, |lent, out| self.make(node, [0, 1, 2, 3, 4].map(|number| lent[number].slice()), out))
     }
 }
 
@@ -63,7 +70,7 @@ fn call(rest: &mut &[u8]) -> Call {
         let length = length(rest);
         take(rest, length).to_vec()
     };
-    Call { operation, room, node, slices: [slice(), slice(), slice(), slice()] }
+    Call { operation, room, node, slices: [slice(), slice(), slice(), slice(), slice()] }
 }
 
 fn length(rest: &mut &[u8]) -> usize {

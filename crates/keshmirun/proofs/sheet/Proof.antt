@@ -1,6 +1,7 @@
 -- `sheet`: the table's refusals, then what is asked of the board. Assumes nothing.
 use mathlib.Core.Path.{sym, ap, _∙_}
 use mathlib.Core.List.{[]}
+use Rattle.paper.specs.Offers.{terms}
 use Rattle.table.specs.Reading.{said}
 use Rattle.keshmirun.specs.declared.asking.Request.the-variants.{Sheet}
 use Rattle.keshmirun.proofs.Requests.{table-refused}
@@ -21,8 +22,8 @@ pack-requires : tie.Need-pack-requires
 pack-requires c κs = search needs
 
 returns : tie.Need-returns
-returns c = let a = c .before .before .before .before .before .before .before .before .before .args in
-    table-refused (a .table .now) (a .marking .now) (a .guards .now) [] Sheet _ _ (c .pack .result) (a .out .now) (sym (c .before .before .before .before .read .ensures) ∙ ap said (c .before .before .number .given .1)) (c .pack .ensures)
+returns c = let a = c .before .before .before .before .before .before .before .before .before .before .args in
+    table-refused (a .table .now) (a .marking .now) (terms (a .guards .now) (a .bounds .now)) [] Sheet _ _ (c .pack .result) (a .out .now) (sym (c .before .before .before .before .read .ensures) ∙ ap said (c .before .before .number .given .1)) (c .pack .ensures)
 
 slice-aggregate-ask : tie.Need-slice-aggregate-ask
 slice-aggregate-ask c = search needs

@@ -1,5 +1,6 @@
 -- `step`: the table's refusals, then what is asked of the board. Assumes nothing.
 use mathlib.Core.Path.{sym, ap, _∙_}
+use Rattle.paper.specs.Offers.{terms}
 use Rattle.table.specs.Reading.{said}
 use Rattle.keshmirun.specs.declared.asking.Request.the-variants.{Step}
 use Rattle.keshmirun.proofs.Requests.{table-refused}
@@ -20,8 +21,8 @@ pack-requires : tie.Need-pack-requires
 pack-requires c κs = search needs
 
 returns : tie.Need-returns
-returns c = let a = c .before .before .before .before .before .before .before .before .before .before .args in
-    table-refused (a .table .now) (a .marking .now) (a .guards .now) (a .choice .now) Step _ _ (c .pack .result) (a .out .now) (sym (c .before .before .before .before .read .ensures) ∙ ap said (c .before .before .number .given .1)) (c .pack .ensures)
+returns c = let a = c .before .before .before .before .before .before .before .before .before .before .before .args in
+    table-refused (a .table .now) (a .marking .now) (terms (a .guards .now) (a .bounds .now)) (a .choice .now) Step _ _ (c .pack .result) (a .out .now) (sym (c .before .before .before .before .read .ensures) ∙ ap said (c .before .before .number .given .1)) (c .pack .ensures)
 
 ask-requires : tie.Need-ask-requires
 ask-requires c κs = sym (c .before .before .before .before .read .ensures) ∙ ap said (c .before .before .x .given .1)

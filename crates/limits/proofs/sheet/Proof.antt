@@ -30,11 +30,14 @@ array-share-prefix-guards c = search needs
 slice-aggregate-sheet-2 : tie.Need-slice-aggregate-sheet-2
 slice-aggregate-sheet-2 c = simp length-take (omega arith)
 
+slice-aggregate-sheet-3 : tie.Need-slice-aggregate-sheet-3
+slice-aggregate-sheet-3 c = search needs
+
 slice-relend-prefix-sheet : tie.Need-slice-relend-prefix-sheet
 slice-relend-prefix-sheet c = search needs
 
-slice-aggregate-sheet-3 : tie.Need-slice-aggregate-sheet-3
-slice-aggregate-sheet-3 c = simp length-take (omega arith)
+slice-aggregate-sheet-4 : tie.Need-slice-aggregate-sheet-4
+slice-aggregate-sheet-4 c = simp length-take (omega arith)
 
 sheet-requires : tie.Need-sheet-requires
 sheet-requires c κs = search needs
@@ -57,8 +60,9 @@ sheet-spec =
     slice-aggregate-sheet
     array-share-prefix-guards
     slice-aggregate-sheet-2
-    slice-relend-prefix-sheet
     slice-aggregate-sheet-3
+    slice-relend-prefix-sheet
+    slice-aggregate-sheet-4
     sheet-requires
     same-length
     returns)

@@ -3,12 +3,16 @@ use mathlib.Core.Path.{refl, sym}
 use native.Mathlib.Omega.{arith}
 use lib.Seq.{length-take-le}
 use Rattle.sheet.proofs.Answers.{refusal-told, sheet-told, prints-refusal, prints-board, printed-inside}
+use Rattle.paper.specs.Offers.{terms, noBounds}
 use borrow.Author.Needs.{needs}
 use Rattle.sheet.proofs.describe_parts.Statement.{statement}
 use Rattle.sheet.proofs.describe_parts.Tie as tie
 
 slice-aggregate-sheet : tie.Need-slice-aggregate-sheet
 slice-aggregate-sheet c = search needs
+
+slice-aggregate-sheet-2 : tie.Need-slice-aggregate-sheet-2
+slice-aggregate-sheet-2 c = search needs
 
 sheet-requires : tie.Need-sheet-requires
 sheet-requires c κs = search needs
@@ -26,45 +30,46 @@ same-length : tie.Need-same-length
 same-length c = search needs
 
 returns : tie.Need-returns
-returns c = let a = c .before .before .before .before .before .before .before .before .before .before .before .before .before .before .args in
+returns c = let a = c .before .before .before .before .before .before .before .before .before .before .before .before .before .before .before .args in
     let n = c .before .before .before .before .before .before .refusal-in in
     let p = c .before .before .before .before .place-in in
-    let e = refusal-told (a .table .now) (a .marking .now) (a .guards .now) (λ i. omega (arith, c .before .before .before .before .before .before .before .before .before .before .before .before .shared-slice-known2 .given i)) refl (c .before .before .before .before .before .before .before .before .sheet2 .ensures) (n .result) (p .result) (n .ensures) (p .ensures) (c .before .before .before .before .before .if1 .taken) in
+    let e = refusal-told (a .table .now) (a .marking .now) (terms (a .guards .now) noBounds) (λ i. omega (arith, c .before .before .before .before .before .before .before .before .before .before .before .before .before .shared-slice-known2 .given i)) refl (c .before .before .before .before .before .before .before .before .sheet2 .ensures) (n .result) (p .result) (n .ensures) (p .ensures) (c .before .before .before .before .before .if1 .taken) in
     let w = c .before .before .refusal-text .ensures in
-    (printed-inside w, prints-refusal (a .table .now) (a .marking .now) (a .guards .now) (n .result) (p .result) e w)
+    (printed-inside w, prints-refusal (a .table .now) (a .marking .now) (terms (a .guards .now) noBounds) (n .result) (p .result) e w)
 
 length-in-requires : tie.Need-length-in-requires
 length-in-requires c κs = search needs
 
 array-share-prefix-sheet : tie.Need-array-share-prefix-sheet
-array-share-prefix-sheet c = let a = c .before .before .before .before .before .before .before .before .before .before .args in
+array-share-prefix-sheet c = let a = c .before .before .before .before .before .before .before .before .before .before .before .args in
     let n = c .before .before .refusal-in in
     let x = c .before .before .before .before .sheet2 in
-    omega (arith, x .kept, sheet-told (a .table .now) (a .marking .now) (a .guards .now) (λ i. omega (arith, c .before .before .before .before .before .before .before .before .shared-slice-known2 .given i)) refl (x .ensures) (n .result) (c .length-in .result) (n .ensures) (c .length-in .ensures .1) (c .before .if1 .left) .1)
+    omega (arith, x .kept, sheet-told (a .table .now) (a .marking .now) (terms (a .guards .now) noBounds) (λ i. omega (arith, c .before .before .before .before .before .before .before .before .before .shared-slice-known2 .given i)) refl (x .ensures) (n .result) (c .length-in .result) (n .ensures) (c .length-in .ensures .1) (c .before .if1 .left) .1)
 
 slice-aggregate-describe-board : tie.Need-slice-aggregate-describe-board
-slice-aggregate-describe-board c = sym (length-take-le (c .before .length-in .result) (c .before .before .before .before .before .sheet2 .last .1 .1 .1 .0) (array-share-prefix-sheet (c .before)))
+slice-aggregate-describe-board c = sym (length-take-le (c .before .length-in .result) (c .before .before .before .before .before .sheet2 .last .1 .1 .1 .1 .0) (array-share-prefix-sheet (c .before)))
 
 describe-board-requires : tie.Need-describe-board-requires
-describe-board-requires c κs = let a = c .before .before .before .before .before .before .before .before .before .before .before .before .args in
+describe-board-requires c κs = let a = c .before .before .before .before .before .before .before .before .before .before .before .before .before .args in
     let n = c .before .before .before .before .refusal-in in
     let l = c .before .before .length-in in
-    (sheet-told (a .table .now) (a .marking .now) (a .guards .now) (λ i. omega (arith, c .before .before .before .before .before .before .before .before .before .before .shared-slice-known2 .given i)) refl (c .before .before .before .before .before .before .sheet2 .ensures) (n .result) (l .result) (n .ensures) (l .ensures .1) (c .before .before .before .if1 .left) .0, c .before .before .before .before .before .before .before .before .before .before .before .before .pre)
+    (sheet-told (a .table .now) (a .marking .now) (terms (a .guards .now) noBounds) (λ i. omega (arith, c .before .before .before .before .before .before .before .before .before .before .before .shared-slice-known2 .given i)) refl (c .before .before .before .before .before .before .sheet2 .ensures) (n .result) (l .result) (n .ensures) (l .ensures .1) (c .before .before .before .if1 .left) .0, c .before .before .before .before .before .before .before .before .before .before .before .before .before .pre)
 
 same-length-2 : tie.Need-same-length-2
 same-length-2 c = search needs
 
 returns-2 : tie.Need-returns-2
-returns-2 c = let a = c .before .before .before .before .before .before .before .before .before .before .before .before .before .before .before .args in
+returns-2 c = let a = c .before .before .before .before .before .before .before .before .before .before .before .before .before .before .before .before .args in
     let x = describe-board-requires (c .before .before .before) (c .before .before .describe-board .lifetimes) .0 in
     let w = c .before .before .describe-board .ensures x in
-    (printed-inside (w .printed), prints-board (a .table .now) (a .marking .now) (a .guards .now) (w .ks) (x .is-board) (w .allowed) (w .printed))
+    (printed-inside (w .printed), prints-board (a .table .now) (a .marking .now) (terms (a .guards .now) noBounds) (w .ks) (x .is-board) (w .allowed) (w .printed))
 
 pub describe-parts-spec : {M : Type 1} → statement M
 describe-parts-spec =
     tie.close
     (tie.spec
     slice-aggregate-sheet
+    slice-aggregate-sheet-2
     sheet-requires
     refusal-in-requires
     place-in-requires

@@ -45,6 +45,9 @@ slice-requires-3 c κs = search needs
 slice-requires-4 : tie.Need-slice-requires-4
 slice-requires-4 c κs = search needs
 
+slice-requires-5 : tie.Need-slice-requires-5
+slice-requires-5 c κs = search needs
+
 same-length : tie.Need-same-length
 same-length c = search needs
 
@@ -56,6 +59,9 @@ same-length-3 c = search needs
 
 same-length-4 : tie.Need-same-length-4
 same-length-4 c = search needs
+
+same-length-5 : tie.Need-same-length-5
+same-length-5 c = search needs
 
 returns-2 : tie.Need-returns-2
 returns-2 c = search needs
@@ -70,37 +76,40 @@ slice-reshare-prefix-answer : tie.Need-slice-reshare-prefix-answer
 slice-reshare-prefix-answer c = search needs
 
 slice-aggregate-answer : tie.Need-slice-aggregate-answer
-slice-aggregate-answer c = omega (arith, length-take (c .before .before .before .before .before .before .before .before .before .before .before .before .before .before .before .before .slice .result) (c .before .before .before .before .before .before .before .before .before .before .before .before .before .before .before .before .slice .last .0), c .before .before .before .before .before .before .before .before .before .before .before .before .before .before .before .before .slice .ensures)
+slice-aggregate-answer c = omega (arith, length-take (c .before .before .before .before .before .before .before .before .before .before .before .before .before .before .before .before .before .before .before .before .slice .result) (c .before .before .before .before .before .before .before .before .before .before .before .before .before .before .before .before .before .before .before .before .slice .last .0), c .before .before .before .before .before .before .before .before .before .before .before .before .before .before .before .before .before .before .before .before .slice .ensures)
 
 slice-reshare-prefix-answer-2 : tie.Need-slice-reshare-prefix-answer-2
 slice-reshare-prefix-answer-2 c = search needs
 
 slice-aggregate-answer-2 : tie.Need-slice-aggregate-answer-2
-slice-aggregate-answer-2 c = omega (arith, length-take (c .before .before .before .before .before .before .before .before .before .before .before .before .before .slice2 .result) (c .before .before .before .before .before .before .before .before .before .before .before .before .before .slice2 .last .0), c .before .before .before .before .before .before .before .before .before .before .before .before .before .slice2 .ensures)
+slice-aggregate-answer-2 c = omega (arith, length-take (c .before .before .before .before .before .before .before .before .before .before .before .before .before .before .before .before .before .slice2 .result) (c .before .before .before .before .before .before .before .before .before .before .before .before .before .before .before .before .before .slice2 .last .0), c .before .before .before .before .before .before .before .before .before .before .before .before .before .before .before .before .before .slice2 .ensures)
 
 slice-reshare-prefix-answer-3 : tie.Need-slice-reshare-prefix-answer-3
 slice-reshare-prefix-answer-3 c = search needs
 
 slice-aggregate-answer-3 : tie.Need-slice-aggregate-answer-3
-slice-aggregate-answer-3 c = omega (arith, length-take (c .before .before .before .before .before .before .before .before .before .before .slice3 .result) (c .before .before .before .before .before .before .before .before .before .before .slice3 .last .0), c .before .before .before .before .before .before .before .before .before .before .slice3 .ensures)
+slice-aggregate-answer-3 c = omega (arith, length-take (c .before .before .before .before .before .before .before .before .before .before .before .before .before .before .slice3 .result) (c .before .before .before .before .before .before .before .before .before .before .before .before .before .before .slice3 .last .0), c .before .before .before .before .before .before .before .before .before .before .before .before .before .before .slice3 .ensures)
 
 slice-reshare-prefix-answer-4 : tie.Need-slice-reshare-prefix-answer-4
 slice-reshare-prefix-answer-4 c = search needs
 
 slice-aggregate-answer-4 : tie.Need-slice-aggregate-answer-4
-slice-aggregate-answer-4 c = omega (arith, length-take (c .before .before .before .before .before .before .before .slice4 .result) (c .before .before .before .before .before .before .before .slice4 .last .0), c .before .before .before .before .before .before .before .slice4 .ensures)
+slice-aggregate-answer-4 c = omega (arith, length-take (c .before .before .before .before .before .before .before .before .before .before .before .slice4 .result) (c .before .before .before .before .before .before .before .before .before .before .before .slice4 .last .0), c .before .before .before .before .before .before .before .before .before .before .before .slice4 .ensures)
+
+slice-reshare-prefix-answer-5 : tie.Need-slice-reshare-prefix-answer-5
+slice-reshare-prefix-answer-5 c = search needs
+
+slice-aggregate-answer-5 : tie.Need-slice-aggregate-answer-5
+slice-aggregate-answer-5 c = omega (arith, length-take (c .before .before .before .before .before .before .before .before .slice5 .result) (c .before .before .before .before .before .before .before .before .slice5 .last .0), c .before .before .before .before .before .before .before .before .slice5 .ensures)
 
 slice-relend-prefix-answer : tie.Need-slice-relend-prefix-answer
 slice-relend-prefix-answer c = search needs
 
-slice-aggregate-answer-5 : tie.Need-slice-aggregate-answer-5
-slice-aggregate-answer-5 c = omega (arith, length-take (c .before .before .before .before .before .before .before .before .before .before .before .before .before .before .before .before .before .before .before .before .before .before .before .wide .result * 256 + c .before .before .before .before .before .before .before .before .before .before .before .before .before .before .before .before .before .before .before .before .before .before .wide2 .result) (c .before .before .before .before .before .before .before .before .before .before .before .before .before .before .before .before .before .before .before .before .before .before .before .before .before .before .before .before .before .before .before .before .before .args .out .now))
+slice-aggregate-answer-6 : tie.Need-slice-aggregate-answer-6
+slice-aggregate-answer-6 c = omega (arith, length-take (c .before .before .before .before .before .before .before .before .before .before .before .before .before .before .before .before .before .before .before .before .before .before .before .before .before .before .before .before .wide .result * 256 + c .before .before .before .before .before .before .before .before .before .before .before .before .before .before .before .before .before .before .before .before .before .before .before .before .before .before .before .wide2 .result) (c .before .before .before .before .before .before .before .before .before .before .before .before .before .before .before .before .before .before .before .before .before .before .before .before .before .before .before .before .before .before .before .before .before .before .before .before .before .before .before .args .out .now))
 
 answer-requires : tie.Need-answer-requires
 answer-requires c κs = search needs
-
-same-length-5 : tie.Need-same-length-5
-same-length-5 c = search needs
 
 same-length-6 : tie.Need-same-length-6
 same-length-6 c = search needs
@@ -113,6 +122,12 @@ same-length-8 c = search needs
 
 same-length-9 : tie.Need-same-length-9
 same-length-9 c = search needs
+
+same-length-10 : tie.Need-same-length-10
+same-length-10 c = search needs
+
+same-length-11 : tie.Need-same-length-11
+same-length-11 c = search needs
 
 returns-3 : tie.Need-returns-3
 returns-3 c = search needs
@@ -134,10 +149,12 @@ call-spec =
     slice-requires-2
     slice-requires-3
     slice-requires-4
+    slice-requires-5
     same-length
     same-length-2
     same-length-3
     same-length-4
+    same-length-5
     returns-2
     array-read-answer
     array-read-answer-2
@@ -149,12 +166,15 @@ call-spec =
     slice-aggregate-answer-3
     slice-reshare-prefix-answer-4
     slice-aggregate-answer-4
-    slice-relend-prefix-answer
+    slice-reshare-prefix-answer-5
     slice-aggregate-answer-5
+    slice-relend-prefix-answer
+    slice-aggregate-answer-6
     answer-requires
-    same-length-5
     same-length-6
     same-length-7
     same-length-8
     same-length-9
+    same-length-10
+    same-length-11
     returns-3)

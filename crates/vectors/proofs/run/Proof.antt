@@ -6,10 +6,10 @@ use Rattle.vectors.proofs.run.Statement.{statement}
 use Rattle.vectors.proofs.run.Tie as tie
 
 abbrev Inv-loop : tie.InvT-loop
-Inv-loop table₀ marking₀ values₀ choice₀ out₀ left₀ table marking values choice out left = (length table ≡ length table₀) × (length marking ≡ length marking₀) × (length values ≡ length values₀) × (length choice ≡ length choice₀) × (length out ≡ length out₀)
+Inv-loop table₀ marking₀ values₀ bounds₀ choice₀ out₀ left₀ table marking values bounds choice out left = (length table ≡ length table₀) × (length marking ≡ length marking₀) × (length values ≡ length values₀) × (length bounds ≡ length bounds₀) × (length choice ≡ length choice₀) × (length out ≡ length out₀)
 
 abbrev μ-loop : tie.MeasureT-loop
-μ-loop table₀ marking₀ values₀ choice₀ out₀ left₀ table marking values choice out left = left
+μ-loop table₀ marking₀ values₀ bounds₀ choice₀ out₀ left₀ table marking values bounds choice out left = left
 
 loop-holds : tie.Need-loop-holds Inv-loop μ-loop
 loop-holds c = search needs
@@ -32,6 +32,9 @@ same-length-4 c = search needs
 same-length-5 : tie.Need-same-length-5 Inv-loop μ-loop
 same-length-5 c = search needs
 
+same-length-6 : tie.Need-same-length-6 Inv-loop μ-loop
+same-length-6 c = search needs
+
 returns : tie.Need-returns Inv-loop μ-loop
 returns c = search needs
 
@@ -44,9 +47,6 @@ loop-less c = search needs
 loop-again : tie.Need-loop-again Inv-loop μ-loop
 loop-again c = search needs
 
-same-length-6 : tie.Need-same-length-6 Inv-loop μ-loop
-same-length-6 c = search needs
-
 same-length-7 : tie.Need-same-length-7 Inv-loop μ-loop
 same-length-7 c = search needs
 
@@ -58,6 +58,12 @@ same-length-9 c = search needs
 
 same-length-10 : tie.Need-same-length-10 Inv-loop μ-loop
 same-length-10 c = search needs
+
+same-length-11 : tie.Need-same-length-11 Inv-loop μ-loop
+same-length-11 c = search needs
+
+same-length-12 : tie.Need-same-length-12 Inv-loop μ-loop
+same-length-12 c = search needs
 
 returns-2 : tie.Need-returns-2 Inv-loop μ-loop
 returns-2 c = search needs
@@ -75,13 +81,15 @@ run-spec =
     same-length-3
     same-length-4
     same-length-5
+    same-length-6
     returns
     sub-left
     loop-less
     loop-again
-    same-length-6
     same-length-7
     same-length-8
     same-length-9
     same-length-10
+    same-length-11
+    same-length-12
     returns-2)

@@ -35,7 +35,7 @@ pub fn damaged_bytes(rng: &mut Rng, bytes: &[u8]) -> Vec<u8> {
 }
 
 /// Makes the length field one more or one less.
-fn change_length(rng: &mut Rng, bytes: &mut [u8]) {
+pub fn change_length(rng: &mut Rng, bytes: &mut [u8]) {
     if bytes.len() >= 2 {
         let length = u16::from_be_bytes([bytes[0], bytes[1]]);
         let changed = if rng.percent(50) {
@@ -48,7 +48,7 @@ fn change_length(rng: &mut Rng, bytes: &mut [u8]) {
 }
 
 /// Makes one byte any byte, or one more or less.
-fn change_byte(rng: &mut Rng, bytes: &mut [u8], place: usize) {
+pub fn change_byte(rng: &mut Rng, bytes: &mut [u8], place: usize) {
     if let Some(byte) = bytes.get_mut(place) {
         *byte = match rng.below(3) {
             0 => rng.byte(),

@@ -1,7 +1,7 @@
 //! Random markings, guards, choices and value lists of a table, and whole events
 //! played from start by this crate's own operations.
 
-use super::{damaged_bytes, table, Parts, Rng};
+use super::{bounds, damaged_bytes, table, Parts, Rng};
 use crate::bytes::{write_stock, Value};
 use crate::marking::{counted_edges, Marking};
 use crate::operations::{finish, start, Answer, Board, NO_NODE};
@@ -54,7 +54,7 @@ fn legal_outputs(rng: &mut Rng, table: &[u8], marking: &[u8], action: u8) -> Vec
 }
 
 /// The table and its marking, if both are good.
-fn read_both(table: &[u8], marking: &[u8]) -> Option<(Table, Marking)> {
+pub fn read_both(table: &[u8], marking: &[u8]) -> Option<(Table, Marking)> {
     let table = Table::read(table).ok()?;
     let marking = Marking::read(&table, marking).ok()?;
     Some((table, marking))
@@ -72,12 +72,14 @@ fn random_stock(rng: &mut Rng, least: usize, most: usize) -> Vec<Value> {
     (0..count).map(|_| random_value(rng)).collect()
 }
 
-/// A value, most often a small number.
+/// A value, most often a small number; at times the least or the greatest, which
+/// bounds name too.
 fn random_value(rng: &mut Rng) -> Value {
-    let number = if rng.percent(80) {
-        rng.below(100) as u32
-    } else {
-        rng.draw() as u32
+    let number = match rng.weighted(&[80, 16, 2, 2]) {
+        0 => rng.below(100) as u32,
+        1 => rng.draw() as u32,
+        2 => 0,
+        _ => u32::MAX,
     };
     number.to_be_bytes()
 }
@@ -193,6 +195,8 @@ pub struct Event {
     pub marking: Vec<u8>,
     /// Guards, legal most of the time.
     pub guards: Vec<u8>,
+    /// A bounds list, legal most of the time.
+    pub bounds: Vec<u8>,
     moves: usize,
     tries: usize,
 }
@@ -220,6 +224,7 @@ impl Event {
     pub fn at(rng: &mut Rng, table: Vec<u8>, marking: Vec<u8>) -> Event {
         Event {
             guards: guards(rng, &table),
+            bounds: bounds(rng, &table, &marking),
             table,
             marking,
             moves: 0,
@@ -228,7 +233,8 @@ impl Event {
     }
 
     /// Goes on to a new point: by a step, by the finish of an action or, where
-    /// neither is to be had, by new guards alone. False once the event is over.
+    /// neither is to be had, by new guards and bounds alone. False once the event
+    /// is over.
     pub fn go_on(&mut self, rng: &mut Rng) -> bool {
         let is_ended = self.marking.get(3) == Some(&1);
         if is_ended || self.moves >= MOST_MOVES || self.tries >= MOST_TRIES {
@@ -239,6 +245,7 @@ impl Event {
         self.moves += 1;
         self.tries = if has_moved { 0 } else { self.tries + 1 };
         self.guards = guards(rng, &self.table);
+        self.bounds = bounds(rng, &self.table, &self.marking);
         true
     }
 
@@ -249,7 +256,8 @@ impl Event {
 
     /// The board, unless sheet refuses it or it takes too long.
     fn board(&self) -> Option<Board> {
-        Board::within(&self.table, &self.marking, &self.guards, MOVE_BUDGET)?.ok()
+        let (table, marking) = (&self.table, &self.marking);
+        Board::within(table, marking, &self.guards, &self.bounds, MOVE_BUDGET)?.ok()
     }
 
     /// The actions that run.

@@ -54,7 +54,7 @@ struct Diagram<'r> {
 }
 
 impl<'r> Diagram<'r> {
-    /// An empty diagram with random bounds.
+    /// An empty diagram with random limits.
     fn new(rng: &'r mut Rng) -> Diagram<'r> {
         let (least, most) = match rng.weighted(&[10, 30, 30, 20, 10]) {
             0 => (1, 4),

@@ -1,4 +1,4 @@
-//! What the tests share: hex, refusals and the paper's small event.
+//! What the tests share: hex, bounds lists, refusals and the paper's small event.
 
 #![allow(dead_code)]
 
@@ -21,6 +21,16 @@ pub fn framed(text: &str) -> Vec<u8> {
     let length = (body.len() as u16).to_be_bytes();
     [&length[..], &body].concat()
 }
+
+/// The bounds list of these entries: edge, low, high.
+pub fn bounds(entries: &[(u8, u32, u32)]) -> Vec<u8> {
+    let record = |(edge, low, high): &(u8, u32, u32)| format!("{edge:02X} {low:08X} {high:08X}");
+    let records: Vec<String> = entries.iter().map(record).collect();
+    framed(&format!("01 {:02X} {}", entries.len(), records.concat()))
+}
+
+/// The greatest value.
+pub const MOST: u32 = 4_294_967_295;
 
 /// Room for any reply.
 pub const ROOM: usize = 4096;

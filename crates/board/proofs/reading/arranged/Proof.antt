@@ -54,7 +54,7 @@ same-length-4 : tie.Need-same-length-4
 same-length-4 c = c .before .before .before .before .before .before .before .before .arrange .kept .1 .1 .1 .1 .1 .1 .1 .1 .1 .1 .0
 
 returns : tie.Need-returns
-returns c = let a = c .before .before .before .before .before .before .before .before .before .before .before .before .before .before .before .before .before .before .before .before .before .before .before .before .before .before .before .args in λ m g y. c .before .before .before .before .before .before .before .before .arrange .ensures .1 m g (rowsOf (a .built .offers) (a .links .now)) (seen-struct (a .built .offers) (a .links .now)) y
+returns c = let a = c .before .before .before .before .before .before .before .before .before .before .before .before .before .before .before .before .before .before .before .before .before .before .before .before .before .before .before .args in λ m goes y. c .before .before .before .before .before .before .before .before .arrange .ensures .1 m goes (rowsOf (a .built .offers) (a .links .now)) (seen-struct (a .built .offers) (a .links .now)) y
 
 pub arranged-spec : {M : Type 1} → statement M
 arranged-spec =

@@ -6,7 +6,7 @@ use lib.ListN.{length, length-set}
 use borrow.Author.Needs.{needs}
 use Rattle.paper.specs.Lists.{at}
 use Rattle.paper.specs.Table.{source}
-use Rattle.paper.proofs.Cursor.{wordAt}
+use Rattle.paper.specs.Bytes.{wordAt}
 use Rattle.table.proofs.Reading.{read-spans, source-node}
 use Rattle.board.specs.Starts.{Begun}
 use Rattle.board.proofs.StartLaws.{begun-more}

@@ -53,7 +53,7 @@ same-length c = search needs
 returns-2 : tie.Need-returns-2
 returns-2 c = let a = c .before .before .before .before .before .before .before .before .before .before .before .before .before .before .before .before .before .args in
     let r = c .before .before .show in
-    λ y. sheet-leaves (a .t .now) (a .b .now) (y .guards) (a .choice .now) (laid-in y _ (c .before .before .before .before .before .before .before .answer .given .1)) (a .request) (r .result) (a .out .now) _ (c .before .before .before .before .enum-told .given .1) (c .before .before .before .before .before .before .before .before .before .before .before .before .before .before .before .before .before .pre .2 .cells-room) (r .ensures)
+    λ y. sheet-leaves (a .t .now) (a .b .now) (y .under) (a .choice .now) (laid-in y _ (c .before .before .before .before .before .before .before .answer .given .1)) (a .request) (r .result) (a .out .now) _ (c .before .before .before .before .enum-told .given .1) (c .before .before .before .before .before .before .before .before .before .before .before .before .before .before .before .before .before .pre .2 .cells-room) (r .ensures)
 
 same-length-2 : tie.Need-same-length-2
 same-length-2 c = search needs
@@ -62,7 +62,7 @@ returns-3 : tie.Need-returns-3
 returns-3 c = let a = c .before .before .before .before .before .before .before .before .before .before .before .before .before .before .before .before .before .before .args in
     let r = c .before .before .pick in
     λ y. let l = laid-in y _ (c .before .before .before .before .before .before .before .before .answer .given .1) in
-    pick-leaves (a .t .now) (a .b .now) (y .guards) (a .choice .now) l (a .request) (r .result) (a .out .now) _ _ (c .before .before .before .before .before .request .given .1) (r .ensures (l .links) (l .on) (l .trees) (l .seated) (laid-told l) (stocks-fit l))
+    pick-leaves (a .t .now) (a .b .now) (y .under) (a .choice .now) l (a .request) (r .result) (a .out .now) _ _ (c .before .before .before .before .before .request .given .1) (r .ensures (l .links) (l .on) (l .trees) (l .seated) (laid-told l) (stocks-fit l))
 
 same-length-3 : tie.Need-same-length-3
 same-length-3 c = search needs
@@ -72,11 +72,11 @@ returns-4 c = let a = c .before .before .before .before .before .before .before 
     let r = c .before .before .step in
     let u : Bytes (a .b .now) = λ i. (c .before .before .before .before .before .before .before .before .before .before .before .before .before .before .before .shared-slice-known2 .given i) .fits in
     λ y. let l = laid-in y _ (c .before .before .before .before .before .before .before .answer .given .1) in
-    step-leaves (a .t .now) (a .b .now) (y .guards) (a .choice .now) l (a .request) (r .result) (a .out .now) _ (c .before .before .before .before .enum-told2 .given .1) (standing-reply l u (a .choice .now) (r .result) (a .out .now) _ (r .ensures))
+    step-leaves (a .t .now) (a .b .now) (y .under) (a .choice .now) l (a .request) (r .result) (a .out .now) _ (c .before .before .before .before .enum-told2 .given .1) (standing-reply l u (a .choice .now) (r .result) (a .out .now) _ (r .ensures))
 
 returns-5 : tie.Need-returns-5
 returns-5 c = let a = c .before .before .before .before .before .before .before .before .before .before .before .before .before .before .before .args in
-    λ y. count-leaves (a .t .now) (a .b .now) (y .guards) (a .choice .now) (laid-in y _ (c .before .before .before .before .before .answer .given .1)) (a .request) (c .states .result) (a .out .now) (a .out .now) _ (c .before .before .request2 .given .1) (c .states .ensures)
+    λ y. count-leaves (a .t .now) (a .b .now) (y .under) (a .choice .now) (laid-in y _ (c .before .before .before .before .before .answer .given .1)) (a .request) (c .states .result) (a .out .now) (a .out .now) _ (c .before .before .request2 .given .1) (c .states .ensures)
 
 pub respond-spec : {M : Type 1} → statement M
 respond-spec =

@@ -9,9 +9,7 @@ ghost use lib.ListN.{length};
 ghost use Rattle.paper.specs.Lists.{at, _⇒_};
 ghost use Rattle.paper.specs.Table.{guarded};
 ghost use Rattle.paper.specs.Offers.{guardsFine};
-ghost use Rattle.paper.specs.Answers.{need};
 ghost use Rattle.table.specs.Reading.{Spans};
-ghost use Rattle.guards.specs.Guards.{said};
 
 // Whether edge j's byte is 0 or 1, and 1 if the edge is unguarded.
 fn guard_fine(t: &[u8], table: Table, g: &[u8], j: usize) -> bool
@@ -27,27 +25,21 @@ fn guard_fine(t: &[u8], table: Table, g: &[u8], j: usize) -> bool
     g[j] == 1
 }
 
-// What reading guards answers: nothing but that they are fine, or the refusal's number and its place.
-pub enum GuardsAnswer {
-    Good,
-    Refused(u8, u8),
-}
-
-// The guards, judged (row 7).
-pub fn read(t: &[u8], table: Table, g: &[u8]) -> GuardsAnswer
+// Whether there is a byte for each edge, and each is fine.
+pub fn guards_fine(t: &[u8], table: Table, g: &[u8]) -> bool
     requires { ⌜ Spans (now t) table ⌝ }
-    ensures { λ r. ⌜ said r ≡ need 7 (guardsFine (now (t .entry)) (now (g .entry))) ⌝ }
+    ensures { λ r. ⌜ r ≡ guardsFine (now (t .entry)) (now (g .entry)) ⌝ }
 {
     let n = table.edges;
     if g.len() != n {
-        return GuardsAnswer::Refused(7, 0);
+        return false;
     }
     let mut j: usize = 0;
     while j < n {
         if !guard_fine(t, table, g, j) {
-            return GuardsAnswer::Refused(7, 0);
+            return false;
         }
         j += 1;
     }
-    GuardsAnswer::Good
+    true
 }

@@ -1,9 +1,9 @@
 -- `guard_fine`: 0 or 1, and 1 where nothing guards the edge. Assumes nothing.
 use mathlib.Core.Path.{sym, _∙_}
-use Rattle.guards.proofs.GuardLaws.{guard-over, guard-any, guard-one}
+use Rattle.terms.proofs.GuardLaws.{guard-over, guard-any, guard-one}
 use borrow.Author.Needs.{needs}
-use Rattle.guards.proofs.guard_fine.Statement.{statement}
-use Rattle.guards.proofs.guard_fine.Tie as tie
+use Rattle.terms.proofs.guards.guard_fine.Statement.{statement}
+use Rattle.terms.proofs.guards.guard_fine.Tie as tie
 
 shared-slice-read-if1 : tie.Need-shared-slice-read-if1
 shared-slice-read-if1 c = search needs

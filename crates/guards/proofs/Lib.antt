@@ -1,2 +1,0 @@
--- Laws of guards.
-pub mod GuardLaws

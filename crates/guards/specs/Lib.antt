@@ -1,2 +1,0 @@
--- What is said of guards.
-pub mod Guards

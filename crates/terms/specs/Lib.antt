@@ -1,0 +1,2 @@
+-- What is said of guards and bounds.
+pub mod Terms
