@@ -149,7 +149,7 @@ pub begun-input : (t b : List ℕ) {x : Table} → tableRead t ≡ good x → (y
     → Begun t b (y .from) (y .kept) (y .tokens) codes values (edges t) → (goes : Gates) (g z : List ℕ) → Ties t g z goes → Input t m goes g z codes values
 begun-input t b e y codes values m ok h f goes g z ties = record {
   ties = ties;
-  apart = λ j l d free. joined-passes t goes m (read-fine t e) (limits .longestPath) j l d (goes j) free;
+  one-value = λ j l d free. joined-passes t goes m (read-fine t e) (limits .longestPath) j l d (goes j) free;
   flat = good-flat t e;
   starts = λ j l c. starts-are t b (y .from) (y .kept) (y .tokens) codes values (y .runs) m ok (h .nodes-held) (h .edges-held) f j l (read-good t e .edge j l .source-fits);
 }

@@ -7,9 +7,7 @@ use rows::Offers;
 use table::Table;
 use terms::TermsAnswer;
 ghost use mathlib.Core.Path.{_≡_};
-ghost use mathlib.Core.Bool.{Bool};
 ghost use mathlib.Core.List.{List};
-ghost use mathlib.Core.Option.{Option};
 ghost use Prim.Native.Nat.{ℕ, _≤_};
 ghost use lib.ListN.{length};
 ghost use Rattle.paper.specs.Answers.{good};
@@ -22,7 +20,7 @@ ghost use Rattle.table.specs.Reading.{tableRead};
 ghost use Rattle.ends.specs.declared.EndsAnswer.the-variants.{Refused};
 ghost use Rattle.rows.specs.Rows.{Ranges};
 ghost use Rattle.terms.specs.Terms.{termsFine, Ties};
-ghost use Rattle.flow.specs.Stages.{Result, Whole, onEdge};
+ghost use Rattle.flow.specs.Stages.{Gates, Result, Whole, onEdge};
 ghost use Rattle.rows.specs.Struct.{rowsOf, Full};
 ghost use Rattle.holding.specs.TakenUp.{held, HeldRoom, Holding, LiveHeld};
 ghost use Rattle.board.specs.Reading.{seats, SeatsRoom, BoardRead};
@@ -73,7 +71,7 @@ fn offered(
     links: &mut [u16],
 ) -> Built
     requires { ⌜ (tableRead (now t) ≡ good table) × (edges (now t) ≤ length (now g)) × (nodes (now t) ≤ length (now from)) × (nodes (now t) ≤ length (now kept)) × (edges (now t) ≤ length (now tokens)) × (512 ≤ length (now links)) ⌝ }
-    ensures { λ r. ⌜ (Ranges (r .from) (r .to) 64 × Full (r .offers)) × ((m : Marking) (goes : ℕ → Option ℕ → Bool) (runs : List ℕ) → Ties (now (t .entry)) (now (g .entry)) (now (bounds .entry)) goes → Good (now (t .entry)) m → Holding (now (t .entry)) (now (b .entry)) m (held (now (from .entry)) (now (kept .entry)) runs (now (tokens .entry))) → Result (now (t .entry)) m goes (rowsOf (r .offers) (now (links .exit))) (r .ok) (r .from) (r .to)) ⌝ }
+    ensures { λ r. ⌜ (Ranges (r .from) (r .to) 64 × Full (r .offers)) × ((m : Marking) (goes : Gates) (runs : List ℕ) → Ties (now (t .entry)) (now (g .entry)) (now (bounds .entry)) goes → Good (now (t .entry)) m → Holding (now (t .entry)) (now (b .entry)) m (held (now (from .entry)) (now (kept .entry)) runs (now (tokens .entry))) → Result (now (t .entry)) m goes (rowsOf (r .offers) (now (links .exit))) (r .ok) (r .from) (r .to)) ⌝ }
 {
     let mut codes = [0u8; Table::MOST_EDGES];
     let mut values = [0u32; Table::MOST_EDGES];
@@ -93,7 +91,7 @@ fn arranged(
     cells: &mut [u8],
 ) -> EndsAnswer
     requires { ⌜ (tableRead (now t) ≡ good table) × Full (built .offers) × (512 ≤ length (now links)) × Ranges (built .from) (built .to) 64 × SeatsRoom (seats (now ends) (now order) (now lens) (now cells)) ⌝ }
-    ensures { λ r. ⌜ ((m : Marking) (goes : ℕ → Option ℕ → Bool) (y : Whole (now (t .entry)) m goes (rowsOf (built .offers) (now (links .entry))) (built .from) (built .to)) → Arranged r (gather (onEdge (now (t .entry)) goes m) (y .order)) (endsOf (now (t .entry)) (offersOf (now (t .entry)) goes m)) (now (ends .exit)) (now (order .exit)) (now (lens .exit)) (now (cells .exit))) ⌝ }
+    ensures { λ r. ⌜ ((m : Marking) (goes : Gates) (y : Whole (now (t .entry)) m goes (rowsOf (built .offers) (now (links .entry))) (built .from) (built .to)) → Arranged r (gather (onEdge (now (t .entry)) goes m) (y .order)) (endsOf (now (t .entry)) (offersOf (now (t .entry)) goes m)) (now (ends .exit)) (now (order .exit)) (now (lens .exit)) (now (cells .exit))) ⌝ }
 {
     let last = built.offers.last;
     let many = built.offers.paths;

@@ -38,8 +38,8 @@ rankOf t rk j = getD rk (source t j) 0
 
 -- ---- one edge
 -- a way at the join that edge e leaves goes over e exactly if each of the offers taken does: at most one of them has a value
-abbrev pub Apart : List ℕ → Gates → (ℕ → List Offer) → ℕ → Type 0
-Apart t goes on e =
+abbrev pub OneValue : List ℕ → Gates → (ℕ → List Offer) → ℕ → Type 0
+OneValue t goes on e =
     isJoin (kind t (source t e)) ≡ true → goes e none ≡ true
     → (w : Offer) → In w (ways t (each on (into t (source t e)))) → goes e (value w) ≡ all (λ p. goes e (value p)) (parts w)
 
@@ -51,7 +51,7 @@ pub record Edge (t : List ℕ) (m : Marking) (goes : Gates) (g x : List ℕ) (r 
   pub segs : isControlNode (kind t (source t e)) ≡ true → (j : ℕ) → j < edges t → target t j ≡ source t e → Seg ts (getD a j 0) (getD b j 0) (on j)
   pub distinct : Distinct (ts ++ on e)
   pub starts : isControlNode (kind t (source t e)) ≡ false → firsts t m e ≡ startOf e (getD st e 0) (getD ol e 0)
-  pub apart : Apart t goes on e
+  pub one-value : OneValue t goes on e
 
 -- ---- rounds
 -- the edges that come before edge e in round r
@@ -74,7 +74,7 @@ pub record Sized (t : List ℕ) (x : Table) (g st ol : List ℕ) : Type 0 where
 -- no chain of 16 control nodes ends at an edge's source, the gates are those of the guards g and the bounds x, and the first offers those of the marking
 pub record Input (t : List ℕ) (m : Marking) (goes : Gates) (g x st ol : List ℕ) : Type 0 where
   pub ties : Ties t g x goes
-  pub apart : (e : ℕ) → e < edges t → Apart t goes (onEdge t goes m) e
+  pub one-value : (e : ℕ) → e < edges t → OneValue t goes (onEdge t goes m) e
   pub flat : (j : ℕ) → j < edges t → chain t (limits .chainTooLong) (source t j) ≡ false
   pub starts : (e : ℕ) → e < edges t → isControlNode (kind t (source t e)) ≡ false → firsts t m e ≡ startOf e (getD st e 0) (getD ol e 0)
 
