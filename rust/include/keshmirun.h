@@ -3,7 +3,7 @@
  *
  * A slice is a pointer and a length. An operation reads its inputs, writes its reply to the front of `out`, and keeps nothing; a refused call
  * changes no byte. Inputs and `out` must not overlap. Formats and numbers are those of the paper "Token flow, tables and markings" and, for bounds, of
- * the wish "Guards that read the result". */
+ * the wish "Guards that read the result"; which ends compete is the paper's with the wish "One round token for all tables". */
 #ifndef KESHMIRUN_H
 #define KESHMIRUN_H
 
@@ -47,12 +47,13 @@ uint64_t keshmirun_start(const uint8_t *table, size_t table_len, const uint8_t *
 uint64_t keshmirun_sheet(const uint8_t *table, size_t table_len, const uint8_t *marking, size_t marking_len, const uint8_t *guards, size_t guards_len,
                          const uint8_t *bounds, size_t bounds_len, uint8_t *out, size_t out_len);
 
-/* Writes the first acceptable choice of ends; with a node named, the first that has an end of it. Refusals 1 to 8, 13, 17, 18. */
+/* Writes the first acceptable choice of ends; with a node named, the first that has an end of it. All results that wait at a join with one token may be in
+ * it. Refusals 1 to 8, 13, 17, 18. */
 uint64_t keshmirun_pick(const uint8_t *table, size_t table_len, const uint8_t *marking, size_t marking_len, const uint8_t *guards, size_t guards_len,
                         const uint8_t *bounds, size_t bounds_len, uint8_t node, uint8_t *out, size_t out_len);
 
-/* Writes the marking after a choice of ends is taken; `choice`: rising numbers of the sheet's ends, under the same guards and bounds. Refusals 1 to 12, 17,
- * 18. */
+/* Writes the marking after a choice of ends is taken; `choice`: rising numbers of the sheet's ends, under the same guards and bounds. Results that wait at a
+ * join with the same tokens may be taken together, and spend them once. Refusals 1 to 12, 17, 18. */
 uint64_t keshmirun_step(const uint8_t *table, size_t table_len, const uint8_t *marking, size_t marking_len, const uint8_t *guards, size_t guards_len,
                         const uint8_t *bounds, size_t bounds_len, const uint8_t *choice, size_t choice_len, uint8_t *out, size_t out_len);
 

@@ -190,8 +190,8 @@ pub const NO_NODE: u8 = 255;
 /// Writes the first acceptable choice of ends to the front of `out`, one byte an end, and returns how many it has.
 ///
 /// With a node named it is the first that has an end of that node, or of a pin of it if it is an action; [`NO_NODE`] names none. Of two choices the one that
-/// holds the lowest end held by only one of them comes first. [`step`] takes what `pick` answers on the same terms. 20 bytes hold any choice. A refused call
-/// leaves `out` as it was.
+/// holds the lowest end held by only one of them comes first. All results that wait at a join with one token may be in it. [`step`] takes what `pick` answers
+/// on the same terms. 20 bytes hold any choice. A refused call leaves `out` as it was.
 ///
 /// # Errors
 /// Refusals 1 to 8 and 18 as for [`sheet`], 13 (a node is named and no acceptable choice has an end of it; the place is that node) and 17 (`out` is shorter
@@ -244,7 +244,8 @@ pub fn pick(table: &[u8], marking: &[u8], terms: Terms, node: u8, out: &mut [u8]
 /// Writes the marking after a choice of ends is taken to the front of `out`, and returns its length.
 ///
 /// `choice` names ends by their numbers on the [`sheet`] of the same table, marking and terms, in rising order; it may be empty. What its ends were made from
-/// is spent, and then their targets gain in the order of ends. A refused call leaves `out` as it was.
+/// is spent, and then their targets gain in the order of ends. Results of one round may be taken together, and spend its token once: two offers of a join
+/// don't compete for its tokens if "their object offers differ and their control offers are all the same". A refused call leaves `out` as it was.
 ///
 /// # Errors
 /// Refusals 1 to 8 and 18 as for [`sheet`], 9 (the choice is not strictly rising, or names no end), 10 (two of its ends compete; the place is the lowest that

@@ -4,6 +4,7 @@
 
 mod common;
 
+use common::drawn::*;
 use common::points::Walk;
 use common::vectors::{all, Call, Operation};
 use common::{answered, limits};
@@ -15,78 +16,17 @@ use std::sync::mpsc::{self, RecvTimeoutError};
 use std::thread;
 use std::time::Duration;
 
-const INITIAL: u8 = 1;
-const ACTION: u8 = 2;
-const INPUT_PIN: u8 = 3;
-const OUTPUT_PIN: u8 = 4;
-const BUFFER: u8 = 5;
-const INCOMING_PARAMETER: u8 = 6;
-const OUTGOING_PARAMETER: u8 = 7;
-const DECISION: u8 = 8;
-const MERGE: u8 = 9;
-const FORK: u8 = 10;
-const JOIN: u8 = 11;
-const FLOW_FINAL: u8 = 12;
-const ACTIVITY_FINAL: u8 = 13;
-
-const CONTROL: u8 = 0;
-const OBJECT: u8 = 1;
-
-const ROOM: usize = 4096;
-/// How many enumeration steps the reading may take for a call.
-const BUDGET: u64 = 100_000;
-
 /// What stands beside the bytes that are lent: whoever reads on there finds object edges, and entries that look good.
 const AROUND: u8 = 1;
 
 const BAD_LIST: Answer = refused(18, 0);
 
-const fn refused(number: u8, place: u8) -> Answer {
-    Answer::Refused { number, place }
-}
-
-/// What sheet, pick and step are given but for bounds.
-#[derive(Clone, Debug)]
-struct Point {
-    table: Vec<u8>,
-    marking: Vec<u8>,
-    guards: Vec<u8>,
-}
-
 impl Point {
-    /// With each of these values in its node, a token on each edge of an initial node, all else empty and all guards 1.
-    fn of(parts: &Parts, held: &[(u8, u32)]) -> Point {
-        let mut body = vec![1, 0];
-        for (node, [kind, ..]) in parts.nodes.iter().enumerate() {
-            let values: Vec<u32> = held.iter().filter(|(holds, _)| usize::from(*holds) == node).map(|(_, value)| *value).collect();
-            match *kind {
-                INPUT_PIN..=OUTGOING_PARAMETER => {
-                    body.push(values.len() as u8);
-                    body.extend(values.iter().flat_map(|value| value.to_be_bytes()));
-                }
-                ACTION => body.push(0),
-                _ => {}
-            }
-        }
-        for [kind, source, ..] in &parts.edges {
-            match parts.nodes[usize::from(*source)][0] {
-                INITIAL => body.push(1),
-                ACTION if *kind == CONTROL => body.push(0),
-                _ => {}
-            }
-        }
-        Point { table: parts.write(), marking: framed(&body), guards: vec![1; parts.edges.len()] }
-    }
-
     /// The paper's small event. Edge 0 is a control edge, 1 to 4 are object edges.
     fn small() -> Point {
         let nodes = [[1, 255, 0, 0], [6, 255, 0, 4], [8, 255, 0, 0], [11, 255, 0, 0], [3, 5, 1, 1], [2, 255, 0, 0], [5, 255, 0, 2]];
         let edges = [[0, 0, 3, 0], [1, 1, 2, 0], [1, 2, 3, 1], [1, 2, 6, 1], [1, 3, 4, 0]];
         Point::of(&Parts { nodes: nodes.to_vec(), edges: edges.to_vec() }, &[(1, 7), (1, 9)])
-    }
-
-    fn inputs<'a>(&'a self, bounds: &'a [u8], choice: &'a [u8]) -> [&'a [u8]; 5] {
-        [&self.table, &self.marking, &self.guards, bounds, choice]
     }
 
     /// The reading's answers to sheet, pick with no node named, and step with this choice.
@@ -130,22 +70,6 @@ impl Point {
     fn edges(&self, bounds: &[u8]) -> Vec<u8> {
         self.ends(bounds).into_iter().map(|(edge, ..)| edge).collect()
     }
-}
-
-/// The bytes with their length before them.
-fn framed(body: &[u8]) -> Vec<u8> {
-    [&(body.len() as u16).to_be_bytes()[..], body].concat()
-}
-
-/// A sheet's ends: last edge, value, number of paths.
-fn listed(sheet: &[u8]) -> Vec<(u8, Option<u32>, u8)> {
-    let mut ends = Vec::new();
-    let mut rest = &sheet[4..];
-    while let [edge, has_value, a, b, c, d, paths, after @ ..] = rest {
-        ends.push((*edge, Some(u32::from_be_bytes([*a, *b, *c, *d])).filter(|_| *has_value == 1), *paths));
-        rest = (0..*paths).fold(after, |rest, _| &rest[1 + usize::from(rest[0])..]);
-    }
-    ends
 }
 
 /// The list that lets this value alone go over each of these edges.
@@ -726,8 +650,7 @@ fn all_values(table: &[u8]) -> Vec<u8> {
     bounds_list(&entries)
 }
 
-/// The outside calls of before there were bounds have the list of no edge, and their answers are those of before. Terms of guards alone give the same, and so
-/// does a list of all edges with all values.
+/// Of the outside calls, those with the list of no edge: terms of guards alone give the same, and so does a list of all edges with all values.
 #[test]
 fn outside_calls_without_bounds() {
     let mut made = 0;

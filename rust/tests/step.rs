@@ -3,98 +3,39 @@
 
 mod common;
 
-use common::points::{varied, Walk, BUDGET};
-use common::{called, limits, room, within, Seen};
-use keshmirun::Terms;
-use reading::random::{choice, Event, Rng};
-use reading::{Answer, Board, NO_NODE};
-
-/// How many steps the reading may take for a pick that is only there to be changed.
-const PICK_BUDGET: u64 = 500;
-
-/// So many calls, sixteen choices at each point.
-fn seen(seed: u64, calls: usize, mut next: impl FnMut(&mut Rng) -> Event) -> Seen {
-    let mut rng = Rng::new(seed);
-    let mut seen = Seen::default();
-    while seen.calls() < calls {
-        let event = next(&mut rng);
-        let event = varied(&mut rng, &event);
-        compare(&mut rng, &mut seen, &event);
-    }
-    seen
-}
-
-fn compare(rng: &mut Rng, seen: &mut Seen, event: &Event) {
-    match Board::within(&event.table, &event.marking, &event.guards, &event.bounds, BUDGET) {
-        Some(Ok(board)) => {
-            for choice in choices(rng, &board) {
-                call(rng, seen, event, &choice, board.step(&choice, usize::MAX));
-            }
-        }
-        Some(Err(refused)) => {
-            let ends = rng.below(4);
-            let choice = choice(rng, ends);
-            call(rng, seen, event, &choice, refused);
-        }
-        None => seen.skip(),
-    }
-}
-
-fn call(rng: &mut Rng, seen: &mut Seen, Event { table, marking, guards, bounds, .. }: &Event, choice: &[u8], full: Answer) {
-    seen.note_bounds(&full, |out| keshmirun::step(table, marking, Terms::new(guards), choice, out));
-    let room = room(rng, &full);
-    let answer = called(rng.byte(), &[table, marking, guards, bounds, choice], room, &within(room, full), |lent, out| {
-        keshmirun::step(lent[0].slice(), lent[1].slice(), Terms::new(lent[2].slice()).with_bounds(lent[3].slice()), lent[4].slice(), out)
-    });
-    seen.note(answer);
-}
-
-/// Picks, with an end more or less or with some of their ends alone, and any choices.
-fn choices(rng: &mut Rng, board: &Board) -> Vec<Vec<u8>> {
-    let mut choices: Vec<Vec<u8>> = (0..6).map(|_| choice(rng, board.ends())).collect();
-    let node = rng.one_of(&board.targets()).unwrap_or(0);
-    for node in [NO_NODE, node] {
-        if let Some(Answer::Good(picked)) = board.pick_within(node, usize::MAX, PICK_BUDGET) {
-            choices.extend((0..2).map(|_| one_changed(rng, &picked, board.ends())));
-            choices.extend((0..2).map(|_| picked.iter().copied().filter(|_| rng.percent(60)).collect()));
-            choices.push(picked);
-        }
-    }
-    choices
-}
-
-/// The choice with one end more or one less.
-fn one_changed(rng: &mut Rng, choice: &[u8], ends: usize) -> Vec<u8> {
-    let changed = rng.below(ends) as u8;
-    (0..ends as u8).filter(|end| choice.contains(end) != (*end == changed)).collect()
-}
+use common::points::Walk;
+use common::{limits, steps};
+use reading::random::Event;
 
 #[test]
 fn whole_events() {
     let mut walk = Walk::default();
-    let seen = seen(31, 120_000, |rng| walk.next(rng));
+    let seen = steps::seen(31, 120_000, |rng| walk.next(rng));
     seen.assert_each(100, &[0, 1, 2, 3, 4, 5, 6, 7, 8, 17]);
     seen.assert_each(500, &[18]);
     seen.assert_each(2_000, &[9, 10, 11, 12]);
     seen.assert_bounded(2_000);
+    seen.assert_freed(800);
     seen.assert_places(12, &[10, 11, 12]);
 }
 
 #[test]
 fn from_anywhere() {
-    let seen = seen(32, 60_000, Event::anywhere);
+    let seen = steps::seen(32, 60_000, Event::anywhere);
     seen.assert_each(50, &[0, 1, 2, 3, 4, 5, 6, 7, 8, 17]);
     seen.assert_each(200, &[18]);
     seen.assert_each(1_000, &[9, 10, 11, 12]);
     seen.assert_bounded(2_000);
+    seen.assert_freed(700);
     seen.assert_places(12, &[10, 11, 12]);
 }
 
 #[test]
 fn near_the_sizes() {
-    let seen = seen(33, 24_000, limits::event);
+    let seen = steps::seen(33, 24_000, limits::event);
     seen.assert_each(300, &[0, 8, 9, 10, 11, 17]);
     seen.assert_each(100, &[18]);
     seen.assert_bounded(1_000);
+    seen.assert_freed(600);
     seen.assert_places(12, &[10, 11]);
 }

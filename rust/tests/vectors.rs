@@ -2,23 +2,42 @@
 
 mod common;
 
+use common::points::BUDGET;
+use common::rounds;
 use common::vectors::{all, Call, Operation};
 use keshmirun::Refusal;
+use reading::{Answer, Board};
 use std::collections::BTreeMap;
+
+/// Whether the answer was another before results of one round could be taken together.
+fn is_freed(call: &Call, answer: &Answer) -> bool {
+    let [table, marking, guards, bounds, choice] = &call.slices;
+    let freed = match Board::within(table, marking, guards, bounds, BUDGET) {
+        Some(Ok(board)) => board.freed_pairs(),
+        _ => Vec::new(),
+    };
+    match call.operation {
+        Operation::Pick => rounds::frees_pick(&freed, answer),
+        Operation::Step => rounds::frees_step(&freed, choice, answer),
+        _ => false,
+    }
+}
 
 #[test]
 fn every_call() {
     let mut made: BTreeMap<Operation, usize> = BTreeMap::new();
-    let mut bounds_refused = 0;
-    for (number, (Call { operation, room, node, slices }, answer)) in all().iter().enumerate() {
+    let (mut bounds_refused, mut freed) = (0, 0);
+    for (number, (call, answer)) in all().iter().enumerate() {
         if let Some(expected) = answer {
-            let [table, marking, given, bounds, choice] = slices;
-            let answer = operation.hold(number as u8, *node, [table, marking, given, bounds, choice], *room, expected);
-            *made.entry(*operation).or_default() += 1;
+            let [table, marking, given, bounds, choice] = &call.slices;
+            let answer = call.operation.hold(number as u8, call.node, [table, marking, given, bounds, choice], call.room, expected);
+            *made.entry(call.operation).or_default() += 1;
             bounds_refused += usize::from(answer == Err(Refusal { number: 18, place: 0 }));
+            freed += usize::from(is_freed(call, expected));
         }
     }
     assert_eq!(made.len(), 6, "{made:?}");
-    assert!(made.values().sum::<usize>() >= 5_000, "{made:?}");
-    assert!(bounds_refused >= 20, "{bounds_refused}");
+    assert!(made.values().sum::<usize>() >= 6_400, "{made:?}");
+    assert!(bounds_refused >= 60, "{bounds_refused}");
+    assert!(freed >= 70, "{freed}");
 }

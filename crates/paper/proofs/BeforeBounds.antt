@@ -1,22 +1,22 @@
--- The definitions as they were before bounds lists (wish 1), kept here alone, and: with count 0 all four answers, of board, sheet, pick and step, are theirs.
+-- The definitions without bounds lists, as they were before wish 1, kept here alone, and: with count 0 all four answers, of board, sheet, pick and step, are theirs.
 -- Assumes nothing.
-use mathlib.Core.Path.{_≡_, refl, sym, ap, ap₂, _∙_, subst}
+use mathlib.Core.Path.{_≡_, refl, sym, ap, _∙_, subst}
 use Prim.Native.Nat.{ℕ, zero, suc}
-use mathlib.Core.Bool.{Bool, true, false, not, _&&_}
-use mathlib.Core.List.{List, [], _∷_, _++_}
+use mathlib.Core.Bool.{Bool, not}
+use mathlib.Core.List.{List, []}
 use mathlib.Core.Option.{Option, none, some}
 use lib.Dec.{eqb}
-use Rattle.paper.specs.Lists.{at, below, keep, each, gather}
+use Rattle.paper.specs.Lists.{at, below, keep, each}
 use Rattle.paper.specs.Answers.{Answer, good, _>>=_, need, known}
 use Rattle.paper.specs.Limits.{limits}
 use Rattle.paper.specs.Table.{edges, source, into, tableFine}
 use Rattle.paper.specs.Marking.{Marking, encode, marking}
-use Rattle.paper.specs.Offers.{Offer, value, handed, guardsFine, boundsFine, boundsCount, inBounds, noBounds, Terms, terms, goesOver, offersOn, offers, ends, sizesFine}
+use Rattle.paper.specs.Offers.{value, handed, guardsFine, boundsCount, inBounds, noBounds, terms, goesOver, offersOn, offers, ends, sizesFine}
 use Rattle.paper.specs.Choices.{Board, boardOf, board}
 use Rattle.paper.specs.Operations.{sheetBytes, sheet, PickIf, Pick, stepOf, step}
-use Rattle.paper.proofs.Members.{In, keep-alike}
+use Rattle.paper.proofs.Members.{keep-alike, each-alike, gather-alike}
 use Rattle.paper.proofs.Fuel.{handed-each}
-use Rattle.paper.proofs.BoundsLists.{no-bounds-fine, one-empty-list}
+use Rattle.paper.proofs.BoundsLists.{no-bounds-fine}
 
 -- ---- the definitions before
 goesOverBefore : List ℕ → ℕ → Option ℕ → Bool
@@ -51,14 +51,6 @@ stepBefore t b g ks = do
   good (encode t m)
 
 -- ---- gates that agree make the same offers
-each-alike : (f g : ℕ → List Offer) → ((j : ℕ) → f j ≡ g j) → (js : List ℕ) → each f js ≡ each g js
-each-alike f g h [] = refl
-each-alike f g h (j ∷ js) = ap₂ (λ (x : List Offer) (xs : List (List Offer)). x ∷ xs) (h j) (each-alike f g h js)
-
-gather-alike : (f g : ℕ → List Offer) → ((j : ℕ) → f j ≡ g j) → (js : List ℕ) → gather f js ≡ gather g js
-gather-alike f g h [] = refl
-gather-alike f g h (j ∷ js) = ap₂ (λ (x xs : List Offer). x ++ xs) (h j) (gather-alike f g h js)
-
 module _ (t : List ℕ) (m : Marking) (goes was : ℕ → Option ℕ → Bool) (same : (e : ℕ) (v : Option ℕ) → goes e v ≡ was e v) where
   on-same-gates : (n e : ℕ) → offersOn t goes m n e ≡ offersOn t was m n e
   unfolding offersOn
@@ -66,12 +58,12 @@ module _ (t : List ℕ) (m : Marking) (goes was : ℕ → Option ℕ → Bool) (
   on-same-gates (suc n) e =
       keep-alike (λ o. goes e (value o)) (λ o. was e (value o)) (handed t m (offersOn t goes m n) e) (λ o k. same e (value o))
       ∙ ap (keep (λ o. was e (value o)))
-      (handed-each t m e (offersOn t goes m n) (offersOn t was m n) (each-alike (offersOn t goes m n) (offersOn t was m n) (on-same-gates n) (into t (source t e))))
+      (handed-each t m e (offersOn t goes m n) (offersOn t was m n) (each-alike (offersOn t goes m n) (offersOn t was m n) (into t (source t e)) (λ j k. on-same-gates n j)))
 
   pub offers-same-gates : offers t goes m ≡ offers t was m
   unfolding offers
   offers-same-gates =
-      gather-alike (offersOn t goes m (limits .longestPath)) (offersOn t was m (limits .longestPath)) (on-same-gates (limits .longestPath)) (below (edges t))
+      gather-alike (offersOn t goes m (limits .longestPath)) (offersOn t was m (limits .longestPath)) (below (edges t)) (λ e k. on-same-gates (limits .longestPath) e)
 
 -- ---- with no bounds
 module _ (g : List ℕ) where

@@ -100,6 +100,21 @@ has-pow n k =
 pub no-digit : (x n : ℕ) → x < 2 ^ n → ((k : ℕ) → k < n → has x k ≡ false) → x ≡ 0
 no-digit x n l h = sym (mod-eq-of-lt l) ∙ no-bits x n (λ k q. zero-of (bit x k) (bit-lt x k) (h k q))
 
+-- two words with the same digits are one
+pub same-digits : (x y n : ℕ) → x < 2 ^ n → y < 2 ^ n → ((k : ℕ) → k < n → has x k ≡ has y k) → x ≡ y
+same-digits x y n lx ly h = sym (mod-eq-of-lt lx) ∙ below-n n h ∙ mod-eq-of-lt ly
+  where
+    digit : (k : ℕ) → has x k ≡ has y k → bit x k ≡ bit y k
+    digit k e = by (has x k) refl
+      where
+        by : (b : Bool) → has x k ≡ b → bit x k ≡ bit y k
+        by true q = eqb-true (bit x k) 1 q ∙ sym (eqb-true (bit y k) 1 (sym e ∙ q))
+        by false q = zero-of (bit x k) (bit-lt x k) q ∙ sym (zero-of (bit y k) (bit-lt y k) (sym e ∙ q))
+
+    below-n : (n : ℕ) → ((k : ℕ) → k < n → has x k ≡ has y k) → x % 2 ^ n ≡ y % 2 ^ n
+    below-n zero h = omega arith
+    below-n (suc n) h = mod-more x n ∙ rw (digit n (h n (le-refl (suc n))), below-n n (λ k l. h k (omega arith))) (sym (mod-more y n))
+
 -- ---- two words meet
 pub meet-has : (x y n : ℕ) → x < 2 ^ n → not (eqb (bitAnd x y) 0) ≡ true → (j : ℕ) × (j < n) × (has x j ≡ true) × (has y j ≡ true)
 meet-has x y n l h = by (any (λ k. has x k && has y k) (below n)) refl

@@ -8,12 +8,12 @@ use mathlib.Core.Option.{Option}
 use lib.Dec.{eqb, leb}
 use native.Mathlib.Omega.{arith}
 use borrow.Author.Tests.{eqb-true, eq-eqb, leb-true, lt-leb, not-true}
-use Rattle.paper.specs.Lists.{any}
+use Rattle.paper.specs.Lists.{all, any}
 use Rattle.paper.specs.Limits.{limits}
 use Rattle.paper.specs.Answers.{good}
 use Rattle.paper.specs.Table.{edges, kind, source, into, chain, isControlNode, isDecision, isJoin, isObjectNode, tableFine}
 use Rattle.paper.specs.Marking.{Marking}
-use Rattle.paper.specs.Offers.{Offer, first, over, with, same, elem, parts, lastEdge, makers, isFirst, origins, share, madeAt, ofOneStock, ofOneDecision, ofOneJoin, clash, compete, offersOn, offers}
+use Rattle.paper.specs.Offers.{Offer, first, over, with, same, elem, parts, lastEdge, makers, isFirst, origins, share, allTheSame, objectOffers, controlOffers, oneRound, madeAt, ofOneStock, ofOneDecision, ofOneJoin, clash, compete, offersOn, offers}
 use Rattle.paper.proofs.Bools.{never, and-true, and-both, false-if, true-or-false, iff}
 use Rattle.paper.proofs.Members.{In, here, later, in-one, in-cons, in-append, append-left, append-right, any-in, in-any, any-none, none-any}
 use Rattle.paper.proofs.Sameness.{same-eq, eq-same, elem-in, in-elem}
@@ -28,47 +28,59 @@ share-sym os ps = iff _ _ (turned os ps) (turned ps os)
     turned : (os ps : List Offer) → share os ps ≡ true → share ps os ≡ true
     turned os ps h = let r = any-in (λ o. elem o ps) os h in in-any (λ o. elem o os) (elem-in ps (r .2)) (in-elem (r .1))
 
+-- ---- wish 2: offers of one round
+all-same-sym : (os ps : List Offer) → allTheSame os ps ≡ allTheSame ps os
+all-same-sym os ps = and-comm (all (λ o. elem o ps) os) (all (λ p. elem p os) ps)
+
+pub one-round-sym : (o p : Offer) → oneRound o p ≡ oneRound p o
+unfolding oneRound
+one-round-sym o p = rw (all-same-sym (objectOffers o) (objectOffers p), all-same-sym (controlOffers o) (controlOffers p))
+
 module _ (t : List ℕ) where
+  -- what two offers of a join may still clash by
+  abbrev pub joinedAlike : Offer → Offer → Bool
+  joinedAlike o p = isDecision (kind t (madeAt t o)) || (isJoin (kind t (madeAt t o)) && not (oneRound o p))
+
   -- made at the same node, both the first offers of an object node, or at a decision or join of an offer in common
   abbrev alike : Offer → Offer → Bool
-  alike o p =
-      (isFirst o && isFirst p && isObjectNode (kind t (madeAt t o)))
-      || ((isDecision (kind t (madeAt t o)) || isJoin (kind t (madeAt t o))) && share (origins o) (origins p))
+  alike o p = (isFirst o && isFirst p && isObjectNode (kind t (madeAt t o))) || (share (origins o) (origins p) && joinedAlike o p)
 
   clash-alike : (o p : Offer) → clash t o p ≡ eqb (madeAt t o) (madeAt t p) && alike o p
   unfolding clash ofOneStock ofOneDecision ofOneJoin
   clash-alike o p =
-      by (isFirst o) (isFirst p) (eqb (madeAt t o) (madeAt t p)) (isObjectNode (kind t (madeAt t o))) (isDecision (kind t (madeAt t o))) (isJoin (kind t (madeAt t o))) (share (origins o) (origins p))
+      by (isFirst o) (isFirst p) (eqb (madeAt t o) (madeAt t p)) (isObjectNode (kind t (madeAt t o))) (isDecision (kind t (madeAt t o))) (isJoin (kind t (madeAt t o))) (share (origins o) (origins p)) (not (oneRound o p))
     where
-      node : (d j h : Bool) → d && h || j && h ≡ (d || j) && h
-      node true j true = refl
-      node true true false = refl
-      node true false false = refl
-      node false j h = refl
+      node : (d j h r : Bool) → d && h || j && h && r ≡ h && (d || (j && r))
+      node true j true r = refl
+      node true true false r = refl
+      node true false false r = refl
+      node false true true r = refl
+      node false true false r = refl
+      node false false true r = refl
+      node false false false r = refl
 
-      rest : (e d j h : Bool) → e && d && h || e && j && h ≡ e && ((d || j) && h)
-      rest true d j h = node d j h
-      rest false d j h = refl
+      rest : (e d j h r : Bool) → e && d && h || e && j && h && r ≡ e && (h && (d || (j && r)))
+      rest true d j h r = node d j h r
+      rest false d j h r = refl
 
-      by : (f g e s d j h : Bool) → f && g && e && s || e && d && h || e && j && h ≡ e && ((f && g && s) || ((d || j) && h))
-      by true true true true d j h = refl
-      by true true true false d j h = node d j h
-      by true true false s d j h = refl
-      by true false e s d j h = rest e d j h
-      by false g e s d j h = rest e d j h
+      by : (f g e s d j h r : Bool) → f && g && e && s || e && d && h || e && j && h && r ≡ e && ((f && g && s) || (h && (d || (j && r))))
+      by true true true true d j h r = refl
+      by true true true false d j h r = node d j h r
+      by true true false s d j h r = refl
+      by true false e s d j h r = rest e d j h r
+      by false g e s d j h r = rest e d j h r
 
   -- the offer was made at an object node only as a first offer: so are all makers (`stock-firsts`)
   abbrev pub StockFirst : Offer → Type 0
   StockFirst o = isObjectNode (kind t (madeAt t o)) ≡ true → isFirst o ≡ true
 
-  -- so whether two offers clash, the node where they were made tells, and whether they were made of an offer in common
+  -- so whether two offers clash, the node where they were made tells, and what they were made of
   pub clash-one : (o p : Offer) → StockFirst o → StockFirst p
-      → clash t o p ≡ eqb (madeAt t o) (madeAt t p) && (isObjectNode (kind t (madeAt t o)) || ((isDecision (kind t (madeAt t o)) || isJoin (kind t (madeAt t o))) && share (origins o) (origins p)))
+      → clash t o p ≡ eqb (madeAt t o) (madeAt t p) && (isObjectNode (kind t (madeAt t o)) || (share (origins o) (origins p) && joinedAlike o p))
   clash-one o p f g = clash-alike o p ∙ by (eqb (madeAt t o) (madeAt t p)) refl (isObjectNode (kind t (madeAt t o))) refl
     where
       by : (e : Bool) → eqb (madeAt t o) (madeAt t p) ≡ e → (s : Bool) → isObjectNode (kind t (madeAt t o)) ≡ s
-          → e && ((isFirst o && isFirst p && s) || ((isDecision (kind t (madeAt t o)) || isJoin (kind t (madeAt t o))) && share (origins o) (origins p)))
-          ≡ e && (s || ((isDecision (kind t (madeAt t o)) || isJoin (kind t (madeAt t o))) && share (origins o) (origins p)))
+          → e && ((isFirst o && isFirst p && s) || (share (origins o) (origins p) && joinedAlike o p)) ≡ e && (s || (share (origins o) (origins p) && joinedAlike o p))
       by false q s r = refl
       by true q true r = let z : madeAt t o ≡ madeAt t p = eqb-true _ _ q in rw (f r, g (rw z at r))
       by true q false r = rw (mathlib.Core.Bool.and-false (isFirst o && isFirst p))
@@ -80,7 +92,7 @@ module _ (t : List ℕ) where
   turned o p h =
       let e = clash-at o p h in
       let r : alike o p ≡ true = and-true (eqb (madeAt t o) (madeAt t p)) _ (sym (clash-alike o p) ∙ h) .1 in
-      clash-alike p o ∙ and-both _ _ (eq-eqb _ _ (sym e)) (rw (share-sym (origins p) (origins o), sym e, and-comm (isFirst p) (isFirst o)) r)
+      clash-alike p o ∙ and-both _ _ (eq-eqb _ _ (sym e)) (rw (share-sym (origins p) (origins o), one-round-sym p o, sym e, and-comm (isFirst p) (isFirst o)) r)
 
   pub clash-sym : (o p : Offer) → clash t o p ≡ clash t p o
   clash-sym o p = iff _ _ (turned o p) (turned p o)

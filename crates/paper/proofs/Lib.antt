@@ -32,6 +32,8 @@ pub mod Choices
 pub mod Search
 pub mod BoundsLists
 pub mod BeforeBounds
+pub mod OneRound
+pub mod BeforeOneRound
 pub mod Boards
 pub mod Sizes
 pub mod Picks
@@ -47,3 +49,4 @@ pub mod OneWord
 pub mod EnoughRoom
 pub mod Computed
 pub mod SmallEvent
+pub mod RoundEvent

@@ -8,10 +8,11 @@ use lib.Dec.{leb, leb·suc-suc, leb·zero}
 use lib.ListN.{length}
 use mathlib.Core.Logic.{⊎-elim}
 use mathlib.Core.List.{List, [], _∷_, _++_}
+use mathlib.Core.Option.{Option, none, some}
 pub use mathlib.Core.List.{List·Memᴰ as In, List·Memᴰ·head as here, List·Memᴰ·tail as later}
 pub use mathlib.Core.List.{List·Memᴰ·not-nil as in-none, List·Memᴰ·cases-cons as in-cons, List·Memᴰ·eq-of-singleton as in-one, Memᴰ·cast as in-equal}
 pub use mathlib.Core.List.{Memᴰ·append-left as append-left, Memᴰ·append-right as append-right, List·Memᴰ·append-cases as in-append}
-use Rattle.paper.specs.Lists.{from, below, all, any, keep, each, gather, count}
+use Rattle.paper.specs.Lists.{from, below, all, any, keep, find, each, gather, count}
 use Rattle.paper.proofs.Bools.{never, and-true, and-both, or-false, or-true, or-left, or-right, false-if}
 
 module _ {A : Type 0} where
@@ -60,9 +61,30 @@ module _ {A : Type 0} where
   keep-alike p q [] h = refl
   keep-alike p q (x ∷ xs) h = ap₂ (λ (c : Bool) (l : List A). cond c (x ∷ l) l) (h x (here refl)) (keep-alike p q xs (λ y m. h y (later m)))
 
+  pub any-alike : (p q : A → Bool) (xs : List A) → ((x : A) → In x xs → p x ≡ q x) → any p xs ≡ any q xs
+  any-alike p q [] h = refl
+  any-alike p q (x ∷ xs) h = ap₂ (λ (a b : Bool). a || b) (h x (here refl)) (any-alike p q xs (λ y m. h y (later m)))
+
   pub keep-none : (p : A → Bool) (xs : List A) → ((x : A) → In x xs → p x ≡ false) → keep p xs ≡ []
   keep-none p [] h = refl
   keep-none p (x ∷ xs) h = rw (h x (here refl)) (keep-none p xs (λ y m. h y (later m)))
+
+  -- nothing is found exactly if no member passes
+  pub find-none : (p : A → Bool) (xs : List A) → ((x : A) → In x xs → p x ≡ false) → find p xs ≡ none
+  find-none p [] h = refl
+  find-none p (x ∷ xs) h = rw (h x (here refl)) (find-none p xs (λ y m. h y (later m)))
+
+  pub none-found : (p : A → Bool) (xs : List A) {x : A} → find p xs ≡ none → In x xs → p x ≡ false
+  none-found p [] h m = absurd (in-none m)
+  none-found p (y ∷ ys) {x} h m = by (p y) refl h (none-found p ys)
+    where
+      by : (b : Bool) → p y ≡ b → cond b (some y) (find p ys) ≡ none → (find p ys ≡ none → In x ys → p x ≡ false) → p x ≡ false
+      by true e q ih = never true refl (ap found q)
+        where
+          found : Option A → Bool
+          found none = false
+          found (some z) = true
+      by false e q ih = ⊎-elim (λ r. ap p r ∙ e) (λ k. ih q k) (in-cons m)
 
 module _ {A B : Type 0} where
   -- ---- each and gather
@@ -83,6 +105,15 @@ module _ {A B : Type 0} where
   pub gather-in : (f : A → List B) {xs : List A} {x : A} {y : B} → In x xs → In y (f x) → In y (gather f xs)
   gather-in f {y = y} (here {x = z} {xs = zs} e) k = append-left (gather f zs) (rw e at k)
   gather-in f (later {x = z} m) k = append-right (f z) (gather-in f m k)
+
+  -- functions that agree on all members
+  pub each-alike : (f g : A → B) (xs : List A) → ((x : A) → In x xs → f x ≡ g x) → each f xs ≡ each g xs
+  each-alike f g [] h = refl
+  each-alike f g (x ∷ xs) h = ap₂ (λ (y : B) (ys : List B). y ∷ ys) (h x (here refl)) (each-alike f g xs (λ y m. h y (later m)))
+
+  pub gather-alike : (f g : A → List B) (xs : List A) → ((x : A) → In x xs → f x ≡ g x) → gather f xs ≡ gather g xs
+  gather-alike f g [] h = refl
+  gather-alike f g (x ∷ xs) h = ap₂ (λ (y ys : List B). y ++ ys) (h x (here refl)) (gather-alike f g xs (λ y m. h y (later m)))
 
 -- ---- numbers below n
 in-from : (n i : ℕ) {k : ℕ} → In k (from i n) → (i ≤ k) × (k < i + n)

@@ -84,7 +84,7 @@ pub record Case : Type 0 where
   pub call : Call
   pub answer : Answer (List ℕ)
 
-abbrev c : ℕ → Call → Answer (List ℕ) → Case
+abbrev pub c : ℕ → Call → Answer (List ℕ) → Case
 c n call answer = record { number = n; call = call; answer = answer }
 
 abbrev pub cases : List Case
@@ -130,12 +130,12 @@ holds r h = record {
 }
 
 -- each row's answer is computed on the definitions
-abbrev Computed : List Case → Type 0
+abbrev pub Computed : List Case → Type 0
 Computed [] = Unit {0}
 Computed (r ∷ rs) = AllowedBy (r .call) (r .answer) × Computed rs
 
 infixr 5 _also_
-abbrev _also_ : {A B : Type 0} → A → B → A × B
+abbrev pub _also_ : {A B : Type 0} → A → B → A × B
 _also_ a b = (a, b)
 
 computed-rows : Computed cases
@@ -151,9 +151,12 @@ in-computed [] h r m = absurd (in-none m)
 in-computed (q ∷ qs) h r m =
     ⊎-elim (λ e. subst (λ (x : Case). AllowedBy (x .call) (x .answer)) (sym e) (h .0)) (in-computed qs (h .1) r) (in-cons m)
 
+pub all-hold : (rs : List Case) → Computed rs → (r : Case) → In r rs → Holds r
+all-hold rs h r m = holds r (in-computed rs h r m)
+
 -- C1 to C12: every row of the table holds
 pub small-event : (r : Case) → In r cases → Holds r
-small-event r m = holds r (in-computed cases computed-rows r m)
+small-event = all-hold cases computed-rows
 
 -- the words that they are, two bytes of number, two of place and four of length: 10 place 0, 13 place 2, 12 place 6, 11 place 2 are C2, C6, C11, C12
 pub words : each (λ (r : Case). wordOf (r .answer)) cases ≡
@@ -195,7 +198,7 @@ computed-bounds =
     also refl also refl also refl also refl also refl also tt
 
 pub bounds-on-the-small-event : (r : Case) → In r bound-cases → Holds r
-bounds-on-the-small-event r m = holds r (in-computed bound-cases computed-bounds r m)
+bounds-on-the-small-event = all-hold bound-cases computed-bounds
 
 -- ---- besides
 -- start, given what node 1 holds, writes the marking

@@ -14,7 +14,7 @@ use Rattle.paper.specs.Limits.{limits}
 use Rattle.paper.specs.Answers.{good, judgedBy}
 use Rattle.paper.specs.Table.{nodes, edges, kind, owner, lower, upper, source, target, into, out, inputs, isObject, isControl, isAction, isInput, isBuffer, isOutgoing, isPin, isObjectNode, isActivityFinal, oneOf, mayLeave, mayEnter, tableFine}
 use Rattle.paper.specs.Marking.{Marking, Field, stockOf, runsOf, tokensOf, layout, counted, pinFine, cleared, markingFine, endedOf, hasStock, hasRuns, hasTokens, Good}
-use Rattle.paper.specs.Offers.{Offer, first, lastEdge, value, orElse, firsts, offersOn, offers, targetOf, belongs, ends, Terms, goesOver, guardsFine, boundsFine, sizesFine}
+use Rattle.paper.specs.Offers.{Offer, first, lastEdge, value, isSome, orElse, firsts, offersOn, offers, targetOf, belongs, ends, Terms, goesOver, guardsFine, boundsFine, sizesFine}
 use Rattle.paper.specs.Choices.{Board, boardOf, howMany, takenEnds, arrivals, rule1, rule2, rule3, actionAgrees, agrees, rules, spent, spend, gain, close, next}
 use Rattle.paper.specs.Operations.{rising, choiceOf, stepOf}
 use Rattle.paper.proofs.Bools.{never, and-true, and-both, or-true, or-right, if-true, either-way}
@@ -31,7 +31,7 @@ use Rattle.paper.proofs.OneMarking.{good-elsewhere}
 use Rattle.paper.proofs.Sameness.{in-elem, on-last}
 use Rattle.paper.proofs.Shapes.{may-enter}
 use Rattle.paper.proofs.Tables.{GoodTable, table-good}
-use Rattle.paper.proofs.Values.{isSome, one-is, offer-value}
+use Rattle.paper.proofs.Values.{one-is, offer-value}
 
 -- ---- lists
 nothing-in : {A : Type 0} (xs : List A) → ((x : A) → In x xs → ⊥) → xs ≡ []

@@ -15,17 +15,13 @@ use Rattle.paper.specs.Limits.{limits}
 use Rattle.paper.specs.Answers.{good}
 use Rattle.paper.specs.Table.{edges, kind, source, into, out, isInitial, isAction, isDecision, isMerge, isFork, isJoin, isControlNode, isObjectNode, isObject, isControl, mayLeave, degreesFine, oneKind, joinFine, tableFine}
 use Rattle.paper.specs.Marking.{Marking, counted}
-use Rattle.paper.specs.Offers.{Offer, first, over, with, elem, parts, value, lastEdge, origins, madeAt, orElse, firsts, ways, offersOn, offers}
+use Rattle.paper.specs.Offers.{Offer, first, over, with, elem, parts, value, isSome, lastEdge, origins, madeAt, orElse, firsts, ways, offersOn, offers}
 use Rattle.paper.proofs.Bools.{never, and-true, or-true, or-left, or-right, if-true}
 use Rattle.paper.proofs.Members.{In, here, later, in-one, in-cons, in-equal, in-append, append-left, append-right, any-in, in-any, all-in, any-count, only, snoc-some}
 use Rattle.paper.proofs.Counts.{all-append}
 use Rattle.paper.proofs.Sameness.{elem-in, on-last}
 use Rattle.paper.proofs.Origins.{Handed, starts, extends, joins, Way, alone, beside, way-of, way-from, on-none, on-view, in-offers, in-into, out-in}
 use Rattle.paper.proofs.Tables.{table-good, Shape}
-
-abbrev pub isSome : Option ℕ → Bool
-isSome none = false
-isSome (some v) = true
 
 -- ---- kinds
 -- "Control edges leave kinds 1, 2, 8 to 11"
@@ -93,16 +89,21 @@ module _ (t : List ℕ) (g : tableFine t limits ≡ good tt) (e : ℕ) (l : e < 
       here-e : In e (into t (source t e) ++ out t (source t e))
       here-e = append-right (into t (source t e)) (out-in t l)
 
-  -- "its outgoing edge is object exactly if it has one"
-  join-kind : isJoin (kind t (source t e)) ≡ true → any (isObject t) (into t (source t e)) ≡ isObject t e
-  unfolding joinFine degreesFine
-  join-kind d =
-      let r = and-true (leb (count (isObject t) (into t (source t e))) 1) _ (if-true _ _ (at-source .join) d) in
+  -- "a merge or join at least one incoming and exactly one outgoing"
+  pub join-out : isJoin (kind t (source t e)) ≡ true → out t (source t e) ≡ e ∷ []
+  unfolding degreesFine
+  join-out d =
       let s = and-true (isDecision (kind t (source t e)) || isFork (kind t (source t e)) ⇒ eqb (length (into t (source t e))) 1 && leb 1 (length (out t (source t e)))) _ (at-source .degrees) in
       let u = and-true (leb 1 (length (into t (source t e)))) _ (if-true _ _ (s .1) (or-right (isMerge (kind t (source t e))) _ d)) in
-      let o = only (out t (source t e)) (eqb-true (length (out t (source t e))) 1 (u .1)) (out-in t l) in
+      only (out t (source t e)) (eqb-true (length (out t (source t e))) 1 (u .1)) (out-in t l)
+
+  -- "its outgoing edge is object exactly if it has one"
+  join-kind : isJoin (kind t (source t e)) ≡ true → any (isObject t) (into t (source t e)) ≡ isObject t e
+  unfolding joinFine
+  join-kind d =
+      let r = and-true (leb (count (isObject t) (into t (source t e))) 1) _ (if-true _ _ (at-source .join) d) in
       any-count (isObject t) (into t (source t e))
-      ∙ ap (leb 1) (sym (eqb-true _ _ (r .1)) ∙ ap (count (isObject t)) o)
+      ∙ ap (leb 1) (sym (eqb-true _ _ (r .1)) ∙ ap (count (isObject t)) (join-out d))
       ∙ by (isObject t e)
     where
       by : (b : Bool) → leb 1 (cond b 1 0) ≡ b
@@ -166,7 +167,7 @@ pub record ObjectEdgesValue (t : List ℕ) (o : Offer) : Type 0 where
   pub is-that : (p : Offer) → In p (origins o) → isObject t (lastEdge p) ≡ true → value o ≡ value p
   pub none-without : any (isObject t) (into t (madeAt t o)) ≡ false → value o ≡ none
 
-with-parts : (o p : Offer) → parts (with o p) ≡ parts o ++ parts p
+pub with-parts : (o p : Offer) → parts (with o p) ≡ parts o ++ parts p
 unfolding parts
 with-parts o p = refl
 
@@ -178,19 +179,19 @@ part-right : (o w : Offer) {p : Offer} → In p (parts w) → In p (parts (with 
 unfolding parts
 part-right o w m = append-right (parts o) m
 
-no-value : (v : Option ℕ) → isSome v ≡ false → v ≡ none
+pub no-value : (v : Option ℕ) → isSome v ≡ false → v ≡ none
 no-value none h = refl
 no-value (some x) h = never true refl h
 
 module _ (t : List ℕ) (on : ℕ → List Offer) (alone-parts : (j : ℕ) (o : Offer) → In o (on j) → parts o ≡ o ∷ []) (last : (j : ℕ) (o : Offer) → In o (on j) → lastEdge o ≡ j) where
-  way-each : {js : List ℕ} {w : Offer} → Way t on js w → (j : ℕ) → In j js → (p : Offer) × In p (parts w) × (lastEdge p ≡ j)
+  pub way-each : {js : List ℕ} {w : Offer} → Way t on js w → (j : ℕ) → In j js → (p : Offer) × In p (parts w) × (lastEdge p ≡ j)
   way-each (alone {j = j} {o = o} k) i m = (o, rw (alone-parts j o k) (here refl), last j o k ∙ sym (in-one m))
   way-each (beside {j = j} {o = o} {w = w} k r c) i m =
       ⊎-elim (λ e. (o, part-left o w (rw (alone-parts j o k) (here refl)), last j o k ∙ sym e))
       (λ l. let s = way-each r i l in (s .0, part-right o w (s .1), s .2)) (in-cons m)
 
   -- the edges that the parts are on
-  part-edge : {js : List ℕ} {w : Offer} → Way t on js w → (p : Offer) → In p (parts w) → In (lastEdge p) js
+  pub part-edge : {js : List ℕ} {w : Offer} → Way t on js w → (p : Offer) → In p (parts w) → In (lastEdge p) js
   part-edge v p m =
       let s = way-from t on parts with-parts v m in
       let e : p ≡ s .1 = in-one (rw (alone-parts (s .0) (s .1) (s .3)) at (s .4)) in
@@ -261,7 +262,7 @@ module _ (t : List ℕ) (on : ℕ → List Offer) (alone-parts : (j : ℕ) (o : 
           ∙ sym (both ∙ ap (λ (b : Bool). b && all (λ q. p (value q)) (parts w)) (ap p none-here ∙ free))
 
 module _ (t : List ℕ) (goes : ℕ → Option ℕ → Bool) (m : Marking) (g : tableFine t limits ≡ good tt) where
-  handed-parts : (n e : ℕ) {o : Offer} → In o (offersOn t goes m n e) → parts o ≡ o ∷ []
+  pub handed-parts : (n e : ℕ) {o : Offer} → In o (offersOn t goes m n e) → parts o ≡ o ∷ []
   unfolding parts
   handed-parts zero e k = absurd (on-none t goes m e k)
   handed-parts (suc n) e k = by (on-view t goes m n e k)
@@ -272,7 +273,7 @@ module _ (t : List ℕ) (goes : ℕ → Option ℕ → Bool) (m : Marking) (g : 
       by (joins c d v) = refl
 
   -- a join's incoming edges: "at most one incoming object edge"
-  one-object : (e : ℕ) → e < edges t → isJoin (kind t (source t e)) ≡ true → count (isObject t) (into t (source t e)) ≤ 1
+  pub one-object : (e : ℕ) → e < edges t → isJoin (kind t (source t e)) ≡ true → count (isObject t) (into t (source t e)) ≤ 1
   unfolding joinFine
   one-object e l d = leb-true _ 1 (and-true (leb (count (isObject t) (into t (source t e))) 1) _ (if-true _ _ (at-source t g e l .join) d) .0)
 

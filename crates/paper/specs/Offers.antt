@@ -1,4 +1,4 @@
--- "Offers", with wish 1: offers, makers, competing, ends in order, rows 7, 18 and 8. Assumes nothing.
+-- "Offers", with wishes 1 and 2: offers, makers, competing, ends in order, rows 7, 18 and 8. Assumes nothing.
 use Prim.Native.Nat.{ℕ, zero, suc, _+_, _*_, _-_, compare, Ordering, Ordering·lt, Ordering·eq, Ordering·gt}
 use mathlib.Core.Bool.{Bool, true, false, not, _&&_, _||_, cond}
 use mathlib.Core.List.{List, [], _∷_, _++_}
@@ -39,6 +39,10 @@ unfoldable pub value : Offer → Option ℕ
 value (first e v) = v
 value (over o e) = value o
 value (with o p) = orElse (value o) (value p)
+
+abbrev pub isSome : Option ℕ → Bool
+isSome none = false
+isSome (some v) = true
 
 -- "a set of paths"
 unfoldable pub paths : Offer → List (List ℕ)
@@ -86,6 +90,21 @@ origins (with o p) = []
 
 abbrev pub share : List Offer → List Offer → Bool
 share os ps = any (λ o. elem o ps) os
+
+-- the offers of one list are all those of the other
+abbrev pub allTheSame : List Offer → List Offer → Bool
+allTheSame os ps = all (λ o. elem o ps) os && all (λ p. elem p os) ps
+
+-- of what an offer was joined from: its object offers, which have a value, and its control offers, which have none
+unfoldable pub objectOffers : Offer → List Offer
+objectOffers o = keep (λ p. isSome (value p)) (origins o)
+
+unfoldable pub controlOffers : Offer → List Offer
+controlOffers o = keep (λ p. not (isSome (value p))) (origins o)
+
+-- wish 2: "their object offers differ and their control offers are all the same"
+unfoldable pub oneRound : Offer → Offer → Bool
+oneRound o p = not (allTheSame (objectOffers o) (objectOffers p)) && allTheSame (controlOffers o) (controlOffers p)
 
 -- ---- "Guards come as e bytes, 0 or 1; an unguarded edge must have 1." (row 7)
 unfoldable pub guardsFine : List ℕ → List ℕ → Bool
@@ -161,9 +180,9 @@ module _ (t : List ℕ) where
   unfoldable pub ofOneDecision : Offer → Offer → Bool
   ofOneDecision o p = eqb (madeAt o) (madeAt p) && isDecision (kind t (madeAt o)) && share (origins o) (origins p)
 
-  -- "(c) offers of the same join that have one of their joined offers in common"
+  -- "(c) offers of the same join that have one of their joined offers in common"; but two of one round "don't compete by (c)"
   unfoldable pub ofOneJoin : Offer → Offer → Bool
-  ofOneJoin o p = eqb (madeAt o) (madeAt p) && isJoin (kind t (madeAt o)) && share (origins o) (origins p)
+  ofOneJoin o p = eqb (madeAt o) (madeAt p) && isJoin (kind t (madeAt o)) && share (origins o) (origins p) && not (oneRound o p)
 
   unfoldable pub clash : Offer → Offer → Bool
   clash o p = ofOneStock o p || ofOneDecision o p || ofOneJoin o p

@@ -129,9 +129,13 @@ pub record Pushed (r s : Rows) (x : Entry) : Type 0 where
   pub new : s .entry (r .count) ≡ x
   pub same : (i k : ℕ) → i ≤ r .count → k < 8 → s .before i k ≡ r .before i k
 
--- d has those of the first c rows that clash with it
-abbrev pub Hits : Rows → ℕ → ℕ → ℕ → ℕ → ℕ → Type 0
-Hits r n k a c d = Marks (λ j. hit n k a (r .entry j .node) (r .entry j .parents)) c d
+-- d has those of the first c rows that have no value
+abbrev pub Controls : Rows → ℕ → ℕ → Type 0
+Controls r c d = Marks (λ j. eqb (r .entry j .has) 0) c d
+
+-- d has those of the first c rows that clash with it, where w has the rows on control edges
+abbrev pub Hits : Rows → ℕ → ℕ → ℕ → ℕ → ℕ → ℕ → Type 0
+Hits r n k a w c d = Marks (λ j. hit n k a (r .entry j .node) (r .entry j .parents) w) c d
 
 -- all makers but itself
 unfoldable pub under : Offer → List Offer

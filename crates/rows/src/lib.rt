@@ -2,19 +2,21 @@
 // Assumes of the table no more than that its bytes span its counts (`Spans`).
 use table::Table;
 use wire::wide;
+use words::JOIN;
 use words::bit_of;
 use words::hits;
 ghost use mathlib.Core.Path.{_≡_};
+ghost use mathlib.Core.Bool.{true};
 ghost use mathlib.Core.List.{List, [], _∷_, _++_};
 ghost use Prim.Native.Nat.{ℕ, _+_, _*_, _≤_, _<_};
 ghost use lib.ListN.{length};
 ghost use Rattle.paper.specs.Lists.{gather};
-ghost use Rattle.paper.specs.Table.{into};
+ghost use Rattle.paper.specs.Table.{into, isJoin};
 ghost use Rattle.table.specs.Reading.{Spans};
 ghost use Rattle.paper.specs.Offers.{Offer, over};
 ghost use Rattle.paper.proofs.Members.{In};
 ghost use Rattle.rows.specs.Sets.{nth, meets};
-ghost use Rattle.rows.specs.Rows.{entryOf, rowsIn, cell, valueOf, admitted, letOver, Holds, Pushed, Hits, Ready, Led, Leaves, Outcome, overs, Ext, Ranges, Pass, startOf, Begin};
+ghost use Rattle.rows.specs.Rows.{entryOf, rowsIn, cell, valueOf, admitted, letOver, Holds, Pushed, Controls, Hits, Ready, Led, Leaves, Outcome, overs, Ext, Ranges, Pass, startOf, Begin};
 
 // While they are built the rows stand in one lent slice, so that nothing but a slice and a count goes from call to call. A row is 16 cells: last
 // edge, the node it leaves, whether there is a value, the value, the number of paths, the words of parents, makers and foes, and for each path
@@ -86,15 +88,41 @@ fn push(
     rows[at + FOES] = foes;
 }
 
-// The rows that clash with a new one.
-fn clashes(rows: &[u64], count: usize, n: u64, k: u64, a: u64) -> u64
+// The rows on control edges, those without a value. A join alone asks for them.
+fn controls(rows: &[u64], count: usize, k: u64) -> u64
     requires { ⌜ (count ≤ 64) × (1024 ≤ length (now rows)) ⌝ }
-    ensures { λ r. ⌜ Hits (rowsIn (now (rows .entry)) count) n k a count r ⌝ }
+    ensures { λ r. ⌜ (isJoin k ≡ true → Controls (rowsIn (now (rows .entry)) count) count r) ⌝ }
+{
+    if k != JOIN {
+        return 0;
+    }
+    let mut d: u64 = 0;
+    let mut j: usize = 0;
+    while j < count {
+        if rows[WIDTH * j + HAS] == 0 {
+            d = d | bit_of(j);
+        }
+        j += 1;
+    }
+    d
+}
+
+// The rows that clash with a new one; c has those on control edges.
+fn clashes(rows: &[u64], count: usize, n: u64, k: u64, a: u64, c: u64) -> u64
+    requires { ⌜ (count ≤ 64) × (1024 ≤ length (now rows)) ⌝ }
+    ensures { λ r. ⌜ Hits (rowsIn (now (rows .entry)) count) n k a c count r ⌝ }
 {
     let mut d: u64 = 0;
     let mut j: usize = 0;
     while j < count {
-        if hits(n, k, a, rows[WIDTH * j + NODE], rows[WIDTH * j + PARENTS]) {
+        if hits(
+            n,
+            k,
+            a,
+            rows[WIDTH * j + NODE],
+            rows[WIDTH * j + PARENTS],
+            c,
+        ) {
             d = d | bit_of(j);
         }
         j += 1;
@@ -119,7 +147,8 @@ pub fn grow(
     requires { ⌜ (count < 64) × (1024 ≤ length (now rows)) ⌝ }
     ensures { λ _. ⌜ ((t : List ℕ) (ts : List Offer) (x : Offer) → Holds t (rowsIn (now (rows .entry)) count) ts → Ready t (rowsIn (now (rows .entry)) count) ts x l n k h v p a m f → Holds t (rowsIn (now (rows .exit)) (count + 1)) (ts ++ (x ∷ []))) ⌝ }
 {
-    let d = clashes(rows, count, n, k, a);
+    let c = controls(rows, count, k);
+    let d = clashes(rows, count, n, k, a, c);
     push(rows, count, l, n, h, v, p, a, bit_of(count) | m, f | d);
 }
 

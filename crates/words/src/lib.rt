@@ -1,11 +1,15 @@
 // Words that stand for sets of offers or of ends: a digit of a word, and whether two offers clash, as their nodes and words say.
 // Assumes no more than its `requires`.
 ghost use mathlib.Core.Path.{_≡_};
-ghost use mathlib.Core.Bool.{_||_};
 ghost use Prim.Native.Nat.{_<_, _^_};
 ghost use Rattle.paper.specs.Lists.{has};
-ghost use Rattle.paper.specs.Table.{isObjectNode, isDecision, isJoin};
-ghost use Rattle.words.specs.Clash.{hit};
+ghost use Rattle.paper.specs.Table.{isObjectNode};
+ghost use Rattle.words.specs.Clash.{oneRoundIn, hit};
+
+// Kinds of nodes, as a table has them.
+pub const DECISION: u64 = 8;
+
+pub const JOIN: u64 = 11;
 
 // The word of the number k alone.
 pub fn bit_of(k: usize) -> u64
@@ -37,16 +41,19 @@ fn is_object_node(k: u64) -> bool
     3 <= k && k <= 7
 }
 
-// Decisions and joins: what leaves them of one origin can't be had together.
-fn is_choice(k: u64) -> bool
-    ensures { λ r. ⌜ r ≡ isDecision k || isJoin k ⌝ }
+// Whether two offers of a join, made from the offers a and b, may come through together: these differ, and those of them on control edges, c, don't.
+fn one_round(a: u64, b: u64, c: u64) -> bool
+    ensures { λ r. ⌜ r ≡ oneRoundIn a b c ⌝ }
 {
-    k == 8 || k == 11
+    if a == b {
+        return false;
+    }
+    a & c == b & c
 }
 
-// Whether an offer that leaves node n, of kind k, from the offers a, clashes with one that leaves m from b.
-pub fn hits(n: u64, k: u64, a: u64, m: u64, b: u64) -> bool
-    ensures { λ r. ⌜ r ≡ hit n k a m b ⌝ }
+// Whether an offer that leaves node n, of kind k, from the offers a, clashes with one that leaves m from b; c has the offers on control edges.
+pub fn hits(n: u64, k: u64, a: u64, m: u64, b: u64, c: u64) -> bool
+    ensures { λ r. ⌜ r ≡ hit n k a m b c ⌝ }
 {
     if n != m {
         return false;
@@ -54,8 +61,11 @@ pub fn hits(n: u64, k: u64, a: u64, m: u64, b: u64) -> bool
     if is_object_node(k) {
         return true;
     }
-    if is_choice(k) {
-        return a & b != 0;
+    if a & b == 0 {
+        return false;
     }
-    false
+    if k == JOIN {
+        return !one_round(a, b, c);
+    }
+    k == DECISION
 }

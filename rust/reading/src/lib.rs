@@ -1,16 +1,18 @@
-//! A plain reading of the paper "Token flow, tables and markings", with wish 1,
-//! "Guards that read the result", of the page "What customers ask next".
+//! A plain reading of the paper "Token flow, tables and markings", with wishes 1
+//! to 3 of the page "What customers ask next": "Guards that read the result", "One
+//! round token for all tables" and "Less copying of paths", which changes no answer.
 //!
 //! Keshmirun runs the activity diagrams of card game tournaments. This crate
-//! says, sentence by sentence, what the paper and the wish promise of the six
+//! says, sentence by sentence, what the paper and the wishes promise of the six
 //! operations, so that an engine can be compared with it call by call. It is
 //! written to be read, not to be fast: an offer is a list entry, a choice is a
 //! list of end numbers, and pick tries the sets of ends one after another.
 //!
 //! The modules follow the paper's headings: `table`, `marking`, `offers`,
-//! `choices`, `operations`. `terms` is the wish: what the guard bytes and the
-//! bounds list say together. `bytes`, `refusal` and `budget` are what these
-//! share. [`random`] makes tables, markings and whole events to compare on.
+//! `choices`, `operations`. `terms` is wish 1: what the guard bytes and the bounds
+//! list say together. Wish 2 amends one sentence in `offers`, (c) of competing.
+//! `bytes`, `refusal` and `budget` are what these share. [`random`] makes tables,
+//! markings and whole events to compare on.
 
 #![forbid(unsafe_code)]
 #![warn(missing_docs)]

@@ -1,10 +1,12 @@
-//! The paper's heading "Offers": what could flow, and where it would end.
+//! The paper's heading "Offers": what could flow, and where it would end. Rule (c)
+//! of competing is as the customers' wish 2, "One round token for all tables",
+//! amends it.
 
 use crate::budget::{Budget, Stop};
 use crate::bytes::Value;
 use crate::marking::Marking;
 use crate::refusal::{require, Refusal, SIZE_PASSED};
-use crate::table::{is_control_node, is_object_node, Table, DECISION, JOIN, OBJECT};
+use crate::table::{is_control_node, is_object_node, Table, CONTROL, DECISION, JOIN, OBJECT};
 use crate::terms::Terms;
 
 /// "Sizes: at most 64 offers, 8 paths in an offer, 20 ends."
@@ -287,9 +289,54 @@ impl Offers {
                 same_source && table.kind(source) == DECISION && from == other_from
             }
             // "(c) offers of the same join that have one of their joined offers
-            // in common"
+            // in common", amended by wish 2
             (Origin::Joined(way), Origin::Joined(other_way)) => {
-                same_source && way.iter().any(|from| other_way.contains(from))
+                same_source
+                    && have_one_in_common(way, other_way)
+                    && !self.differ_in_object_offers_only(table, way, other_way)
+            }
+            _ => false,
+        }
+    }
+
+    /// Wish 2: "two offers of a join don't compete by (c) if their object offers
+    /// differ and their control offers are all the same." The two were joined in
+    /// these ways. A way has one offer from every incoming edge, in order, so the
+    /// lists compare edge by edge; and it is offers that differ, not their values.
+    /// Without an object edge none differ: "All else in (c) stands, joins of control
+    /// edges only included."
+    fn differ_in_object_offers_only(
+        &self,
+        table: &Table,
+        way: &[usize],
+        other_way: &[usize],
+    ) -> bool {
+        let object_offers = |way: &[usize]| self.on_edges_of_kind(table, OBJECT, way);
+        let control_offers = |way: &[usize]| self.on_edges_of_kind(table, CONTROL, way);
+        object_offers(way) != object_offers(other_way)
+            && control_offers(way) == control_offers(other_way)
+    }
+
+    /// Those of these offers that are on edges of this kind.
+    fn on_edges_of_kind(&self, table: &Table, kind: u8, offers: &[usize]) -> Vec<usize> {
+        let is_on = |offer: &usize| table.edges[self.list[*offer].edge].kind == kind;
+        offers.iter().copied().filter(is_on).collect()
+    }
+
+    /// Whether two offers would compete by the paper's own (c), and by wish 2 don't.
+    pub fn are_freed(&self, table: &Table, one: usize, other: usize) -> bool {
+        let others = &self.list[other].makers;
+        let has_exempt = |maker: &usize| others.iter().any(|o| self.are_exempt(table, *maker, *o));
+        !self.compete(one, other) && self.list[one].makers.iter().any(has_exempt)
+    }
+
+    /// Whether two offers "have one of their joined offers in common" and "don't
+    /// compete by (c)" all the same.
+    fn are_exempt(&self, table: &Table, one: usize, other: usize) -> bool {
+        match (&self.list[one].origin, &self.list[other].origin) {
+            (Origin::Joined(way), Origin::Joined(other_way)) => {
+                have_one_in_common(way, other_way)
+                    && self.differ_in_object_offers_only(table, way, other_way)
             }
             _ => false,
         }
@@ -332,4 +379,9 @@ impl Offers {
     pub fn end(&self, end: usize) -> &Offer {
         &self.list[self.ends[end]]
     }
+}
+
+/// "that have one of their joined offers in common"
+fn have_one_in_common(way: &[usize], other_way: &[usize]) -> bool {
+    way.iter().any(|from| other_way.contains(from))
 }

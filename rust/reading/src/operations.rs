@@ -207,6 +207,23 @@ impl Board {
             .collect()
     }
 
+    /// The pairs of its ends, the lower first, that wish 2 frees: they would compete
+    /// by the paper's own (c), and don't. No answer asks for them; they say where the
+    /// wish changes one.
+    pub fn freed_pairs(&self) -> Vec<(u8, u8)> {
+        let ends = &self.offers.ends;
+        let are_freed = |lower: usize, higher: usize| {
+            let (one, other) = (ends[lower], ends[higher]);
+            self.offers.are_freed(&self.table, one, other)
+        };
+        let mut pairs = Vec::new();
+        for higher in 0..ends.len() {
+            let freed = (0..higher).filter(|lower| are_freed(*lower, higher));
+            pairs.extend(freed.map(|lower| (lower as u8, higher as u8)));
+        }
+        pairs
+    }
+
     /// What [`step`] answers here.
     pub fn step(&self, choice: &[u8], room: usize) -> Answer {
         answer(self.stepped(choice, room))

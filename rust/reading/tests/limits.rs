@@ -4,28 +4,12 @@
 mod common;
 
 use common::{
-    bounds, framed, hex, number, refused, reply, small_guards, small_marking, small_table, MOST,
-    ROOM,
+    bounds, framed, hex, number, refused, reply, small_guards, small_marking, small_table, ACTION,
+    ACTIVITY_FINAL, BUFFER, CONTROL, DECISION, FLOW_FINAL, FORK, INCOMING, INITIAL, INPUT_PIN,
+    JOIN, MERGE, MOST, OBJECT, OUTGOING, OUTPUT_PIN, ROOM,
 };
 use reading::random::Parts;
 use reading::{check, finish, pick, sheet, sheet_within, start, step, Answer, NO_BOUNDS, NO_NODE};
-
-const INITIAL: u8 = 1;
-const ACTION: u8 = 2;
-const INPUT_PIN: u8 = 3;
-const OUTPUT_PIN: u8 = 4;
-const BUFFER: u8 = 5;
-const INCOMING: u8 = 6;
-const OUTGOING: u8 = 7;
-const DECISION: u8 = 8;
-const MERGE: u8 = 9;
-const FORK: u8 = 10;
-const JOIN: u8 = 11;
-const FLOW_FINAL: u8 = 12;
-const ACTIVITY_FINAL: u8 = 13;
-
-const CONTROL: u8 = 0;
-const OBJECT: u8 = 1;
 
 /// So many control edges from node 0, initial, to node 1.
 fn parts_with_edges(second_kind: u8, edges: usize) -> Parts {

@@ -6,7 +6,7 @@ mod common;
 use common::{number, reply, MOST, ROOM};
 use reading::random::{self, Event, Parts, Rng};
 use reading::{
-    check, finish, pick, pick_within, sheet, sheet_within, start, step, step_within, Answer,
+    check, finish, pick, pick_within, sheet, sheet_within, start, step, step_within, Answer, Board,
     NO_BOUNDS, NO_NODE,
 };
 use std::collections::{BTreeMap, BTreeSet};
@@ -440,6 +440,69 @@ fn most_events_move_on_under_bounds() {
     println!("points with a move: {movable}, left under bounds: {left}");
     assert!(movable >= 600);
     assert!(10 * left >= 8 * movable && left < movable);
+}
+
+#[test]
+fn wish_2_changes_picks_and_steps() {
+    let (mut calls, mut new_picks) = (0, 0);
+    let mut new_steps = BTreeMap::new();
+    for_each_point(10, 1_300, |rng, event| {
+        if calls == 10_000 {
+            return;
+        }
+        calls += 1;
+        let freed = freed_pairs(event);
+        let (table, marking) = (&event.table, &event.marking);
+        let (guards, bounds) = (&event.guards, &event.bounds);
+        let any_node = event.node(rng);
+        let node = rng.one_of(&[NO_NODE, any_node]).unwrap();
+        let pick = pick_within(table, marking, guards, bounds, node, ROOM, BUDGET);
+        new_picks += usize::from(pick.map_or(false, |answer| is_new_pick(&answer, &freed)));
+        let choice = random::choice(rng, event.ends().unwrap_or(1));
+        let step = step_within(table, marking, guards, bounds, &choice, ROOM, BUDGET);
+        if let Some(answer) = step.filter(|answer| is_new_step(&choice, answer, &freed)) {
+            *new_steps.entry(number(&answer)).or_insert(0) += 1;
+        }
+    });
+    println!("new of {calls} picks: {new_picks}; of as many steps, by number: {new_steps:?}");
+    assert_eq!(calls, 10_000);
+    assert!(new_picks >= 60);
+    assert!(new_steps.values().sum::<i32>() >= 40);
+    assert!(new_steps.keys().eq(&[0, 10, 11, 12]));
+}
+
+/// The pairs of ends that wish 2 frees at this point, none if sheet refuses it.
+fn freed_pairs(event: &Event) -> Vec<(u8, u8)> {
+    let (table, marking) = (&event.table, &event.marking);
+    match Board::within(table, marking, &event.guards, &event.bounds, BUDGET) {
+        Some(Ok(board)) => board.freed_pairs(),
+        _ => Vec::new(),
+    }
+}
+
+/// The lowest end of a freed pair that this choice holds.
+fn lowest_freed(choice: &[u8], freed: &[(u8, u8)]) -> Option<u8> {
+    let is_held = |pair: &&(u8, u8)| choice.contains(&pair.0) && choice.contains(&pair.1);
+    freed.iter().filter(is_held).map(|pair| pair.0).min()
+}
+
+/// Whether pick answered something else before wish 2. A choice that holds a freed
+/// pair was not acceptable then; all others were judged as now.
+fn is_new_pick(answer: &Answer, freed: &[(u8, u8)]) -> bool {
+    match answer {
+        Answer::Good(choice) => lowest_freed(choice, freed).is_some(),
+        Answer::Refused { .. } => false,
+    }
+}
+
+/// Whether step answered something else before wish 2. A choice that holds a freed
+/// pair got 10 then, at the lowest end of such a pair or of one that still competes.
+fn is_new_step(choice: &[u8], answer: &Answer, freed: &[(u8, u8)]) -> bool {
+    match (lowest_freed(choice, freed), answer) {
+        (None, _) => false,
+        (Some(lowest), Answer::Refused { number: 10, place }) => lowest < *place,
+        (Some(_), answer) => number(answer) != 9,
+    }
 }
 
 #[test]

@@ -134,7 +134,7 @@ pub fn ends(rng: &mut Rng, wanted: usize) -> Parts {
         let from = source(rng, &mut parts, kind);
         let left = wanted - made;
         made += match rng.below(3) {
-            0 if left >= 4 => product(&mut parts, from, kind, end),
+            0 if left >= 4 => product(rng, &mut parts, from, kind, end),
             1 => {
                 let branches = rng.between(1, left.min(6));
                 let node = leads_to(&mut parts, kind, from, if rng.percent(50) { FORK } else { DECISION });
@@ -150,14 +150,15 @@ pub fn ends(rng: &mut Rng, wanted: usize) -> Parts {
     parts
 }
 
-/// Two merges of two edges into a join: four ends. One merge's edges are control edges, since a join takes one object edge at most.
-fn product(parts: &mut Parts, from: u8, kind: u8, end: u8) -> usize {
+/// Two merges of two edges into a join: four ends. One merge's edges are control edges, since a join takes one object edge at most; the other's have one source
+/// or two.
+fn product(rng: &mut Rng, parts: &mut Parts, from: u8, kind: u8, end: u8) -> usize {
+    let also_from = if rng.percent(50) { source(rng, parts, kind) } else { from };
     let other = parts.add_node(INITIAL, 0);
     let join = parts.add_node(JOIN, 0);
-    for (from, kind) in [(from, kind), (other, CONTROL)] {
+    for (sources, kind) in [([from, also_from], kind), ([other, other], CONTROL)] {
         let merge = parts.add_node(MERGE, 0);
-        parts.add_edge(kind, from, merge, 0);
-        parts.add_edge(kind, from, merge, 0);
+        sources.iter().for_each(|source| parts.add_edge(kind, *source, merge, 0));
         parts.add_edge(kind, merge, join, 0);
     }
     parts.add_edge(kind, join, end, 0);

@@ -2,13 +2,17 @@
 
 #![allow(dead_code)] // each test uses its part
 
+pub mod drawn;
 pub mod limits;
+pub mod picks;
 pub mod points;
+pub mod rounds;
 pub mod second;
+pub mod steps;
 pub mod vectors;
 
 use keshmirun::Refusal;
-use reading::random::Rng;
+use reading::random::{Parts, Rng};
 use reading::Answer;
 use std::collections::BTreeSet;
 
@@ -97,13 +101,31 @@ pub fn answered(operation: impl FnOnce(&mut [u8]) -> Result<usize, Refusal>) -> 
     }
 }
 
-/// How often each answer came, 0 good, else the refusal's number; at which places; how many answers the bounds made others; and how many calls the reading
-/// left out.
+/// All sets of so many ends, first choice first: the lowest end is the highest digit.
+pub fn sets(ends: usize) -> impl Iterator<Item = Vec<u8>> {
+    let set = move |digits: u32| (0..ends as u8).filter(|end| digits >> (ends as u8 - 1 - end) & 1 == 1).collect();
+    (0..1 << ends).rev().map(set)
+}
+
+/// Whether an end of the choice belongs to the node, if one is named: as its target, or as a pin of it.
+pub fn has_end_of(parts: &Parts, targets: &[u8], choice: &[u8], named: Option<u8>) -> bool {
+    named.map_or(true, |node| {
+        choice.iter().any(|end| {
+            let target = targets[usize::from(*end)];
+            let [kind, owner, ..] = parts.nodes[usize::from(target)];
+            target == node || kind == drawn::INPUT_PIN && owner == node
+        })
+    })
+}
+
+/// How often each answer came, 0 good, else the refusal's number; at which places; how many answers the bounds made others, and how many wish 2; and how many
+/// calls the reading left out.
 #[derive(Debug, Default)]
 pub struct Seen {
     counts: [usize; 19],
     places: [BTreeSet<u8>; 19],
     bounded: usize,
+    freed: usize,
     skipped: usize,
 }
 
@@ -118,6 +140,11 @@ impl Seen {
     pub fn note_bounds(&mut self, full: &Answer, without: impl FnOnce(&mut [u8]) -> Result<usize, Refusal>) {
         let is_refused = matches!(full, Answer::Refused { number: 18, .. });
         self.bounded += usize::from(!is_refused && answered(without) != *full);
+    }
+
+    /// Counts an answer that was another before results of one round could be taken together.
+    pub fn note_freed(&mut self, is_freed: bool) {
+        self.freed += usize::from(is_freed);
     }
 
     /// A call whose answer the reading didn't find within its steps.
@@ -138,6 +165,11 @@ impl Seen {
     /// So many answers were others than without bounds.
     pub fn assert_bounded(&self, least: usize) {
         assert!(self.bounded >= least, "{self:?}");
+    }
+
+    /// So many answers were others before results of one round could be taken together.
+    pub fn assert_freed(&self, least: usize) {
+        assert!(self.freed >= least, "{self:?}");
     }
 
     /// Every one of these refusals came at so many places.

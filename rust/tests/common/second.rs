@@ -221,9 +221,15 @@ impl Second {
         node == self.source(other.edge)
             && match self.kind(node) {
                 DECISION => one.from == other.from,
-                JOIN => one.from.iter().any(|offer| other.from.contains(offer)),
+                JOIN => one.from.iter().any(|offer| other.from.contains(offer)) && !self.are_of_one_round(one, other),
                 kind => is_object_node(kind),
             }
+    }
+
+    /// Wish 2, of two offers of a join: they were made from different object offers and, edge by edge, from the same control offers.
+    fn are_of_one_round(&self, one: &Offer, other: &Offer) -> bool {
+        let mut differing = one.from.iter().zip(&other.from).filter(|(one, other)| one != other).peekable();
+        differing.peek().is_some() && differing.all(|(offer, _)| self.offers[*offer].value.is_some())
     }
 
     fn compete(&self, one: usize, other: usize) -> bool {

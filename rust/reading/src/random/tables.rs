@@ -1,6 +1,6 @@
 //! Random good tables. A diagram grows from its sources: flows leave them, pass
 //! decisions, merges, forks and joins, and close on actions, pins, buffers,
-//! parameters and finals.
+//! parameters and finals. Some diagrams have rounds too, of which wish 2 speaks.
 
 use super::{Parts, Rng};
 use crate::table::{
@@ -45,6 +45,8 @@ struct Diagram<'r> {
     most_edges: usize,
     /// How likely the deepest flow is the one that goes on.
     deepest_first: usize,
+    /// How heavy rounds weigh among what is planted: 100 is as much as all else.
+    rounds: usize,
     /// How heavy decisions, merges, forks and joins weigh.
     weights: [usize; 4],
     /// The most edges that leave a decision or fork, or enter a merge or join.
@@ -75,6 +77,7 @@ impl<'r> Diagram<'r> {
             most_nodes,
             most_edges,
             deepest_first: if rng.percent(20) { 90 } else { 25 },
+            rounds: [0, 40, 400][rng.weighted(&[60, 25, 15])],
             weights,
             width: if rng.percent(8) { 9 } else { rng.between(1, 4) },
             is_full: rng.percent(10),
@@ -96,11 +99,11 @@ impl<'r> Diagram<'r> {
     fn plant_nodes(&mut self) {
         let share = self.rng.between(33, 75);
         let planted = self.most_nodes * share / 100;
-        let mut weights = [40, 60, 0, 0, 0]; // first of all, a source
+        let mut weights = [40, 60, 0, 0, 0, 0]; // first of all, a source
         while self.parts.nodes.len() < planted && self.has_room(1, 2) {
             let what = self.rng.weighted(&weights);
             self.plant(what);
-            weights = [12, 18, 12, 13, 45];
+            weights = [12, 18, 12, 13, 45, self.rounds];
         }
         if self.parts.nodes.is_empty() {
             let what = self.rng.below(4);
@@ -108,22 +111,28 @@ impl<'r> Diagram<'r> {
         }
     }
 
-    /// One of five things.
+    /// One of six things.
     fn plant(&mut self, what: usize) {
         match what {
             0 => self.plant_source(INITIAL, CONTROL),
             1 => self.plant_source(INCOMING_PARAMETER, OBJECT),
             2 => self.plant_source(CENTRAL_BUFFER, OBJECT),
             3 => self.plant_target(),
-            _ => self.plant_action(),
+            4 => self.plant_action(),
+            _ => self.plant_round(),
         }
     }
 
     /// A source with up to three flows, most often one.
     fn plant_source(&mut self, kind: u8, flow_kind: u8) {
+        let flows = [1, 0, 2, 3][self.rng.weighted(&[60, 8, 22, 10])];
+        self.plant_source_with(kind, flow_kind, flows);
+    }
+
+    /// A source with so many flows.
+    fn plant_source_with(&mut self, kind: u8, flow_kind: u8, flows: usize) {
         let upper = if flow_kind == OBJECT { self.upper() } else { 0 };
         let source = self.parts.add_node(kind, upper);
-        let flows = [1, 0, 2, 3][self.rng.weighted(&[60, 8, 22, 10])];
         self.add_flows(flow_kind, source, 0, flows);
     }
 
@@ -161,6 +170,85 @@ impl<'r> Diagram<'r> {
         }
         let flows = self.rng.weighted(&[50, 38, 12]);
         self.add_flows(CONTROL, action, 0, flows);
+    }
+
+    /// A round: results merge and wait at a join for a "round open" token; at times
+    /// for one of two tokens, which merge too, or for one on each of two edges. Now
+    /// and then there are no results, and the join is one of control edges only.
+    fn plant_round(&mut self) {
+        let results = [2, 3, 4, 0][self.rng.weighted(&[30, 30, 30, 10])];
+        let tokens = [&[1][..], &[2], &[1, 1], &[1, 2]][self.rng.weighted(&[45, 10, 15, 30])];
+        let flows = results + tokens.iter().sum::<usize>();
+        if !self.has_room(flows + 4, flows + 3) {
+            return; // for their sources, two merges, the join and a stock behind it
+        }
+        let mut waiting = self.merged_flows(OBJECT, results);
+        for number in tokens {
+            waiting.extend(self.merged_flows(CONTROL, *number));
+        }
+        self.grow_from(JOIN, &waiting, 1);
+        if results > 0 && self.rng.percent(50) {
+            self.close_at_stock();
+        }
+    }
+
+    /// The flow behind a merge of so many flows of this kind, or more where one has
+    /// split; that flow itself if it is one.
+    fn merged_flows(&mut self, kind: u8, number: usize) -> Vec<Flow> {
+        let mut flows = Vec::new();
+        for _ in 0..number {
+            flows.extend(self.flows_to_round(kind));
+        }
+        if flows.len() > 1 {
+            self.grow_from(MERGE, &flows, 1);
+            flows = self.open.pop().into_iter().collect();
+        }
+        flows
+    }
+
+    /// A flow that is open already and not too deep, the flow of a new source or,
+    /// where room is plenty, its two branches.
+    fn flows_to_round(&mut self, kind: u8) -> Vec<Flow> {
+        let is_fitting = |flow: &Flow| flow.kind == kind && flow.depth + 3 < FORBIDDEN_CHAIN;
+        let fitting: Vec<usize> = (0..self.open.len())
+            .filter(|place| is_fitting(&self.open[*place]))
+            .collect();
+        match (self.rng.weighted(&[65, 15, 20]), self.next_of(&fitting)) {
+            (1, _) if self.has_room(14, 20) => self.branches_of_new_source(kind),
+            (2, Some(place)) => vec![self.open.swap_remove(place)],
+            _ => self.flow_of_new_source(kind),
+        }
+    }
+
+    /// The flow of a new source.
+    fn flow_of_new_source(&mut self, kind: u8) -> Vec<Flow> {
+        let before = self.open.len();
+        let source = match self.rng.weighted(&[85, 15]) {
+            _ if kind == CONTROL => INITIAL,
+            0 => INCOMING_PARAMETER,
+            _ => CENTRAL_BUFFER,
+        };
+        self.plant_source_with(source, kind, 1);
+        self.open.split_off(before)
+    }
+
+    /// The two branches of its flow behind a fork, at times a decision.
+    fn branches_of_new_source(&mut self, kind: u8) -> Vec<Flow> {
+        let flow = self.flow_of_new_source(kind);
+        let before = self.open.len();
+        let split = [FORK, DECISION][self.rng.weighted(&[75, 25])];
+        self.grow_from(split, &flow, 2);
+        self.open.split_off(before)
+    }
+
+    /// Ends the flow that was opened last at a new stock.
+    fn close_at_stock(&mut self) {
+        if let Some(flow) = self.open.pop() {
+            let kind = [CENTRAL_BUFFER, OUTGOING_PARAMETER][self.rng.below(2)];
+            let upper = self.rng.between(1, 4) as u8;
+            let stock = self.parts.add_node(kind, upper);
+            self.close(flow, stock);
+        }
     }
 
     /// An upper, most often a small one.
@@ -218,10 +306,16 @@ impl<'r> Diagram<'r> {
     /// A control node that closes up to `entering` flows and opens `leaving`.
     fn grow(&mut self, kind: u8, entering: usize, leaving: usize) {
         let taken = self.take_flows(kind, entering);
+        self.grow_from(kind, &taken, leaving);
+    }
+
+    /// A control node that closes these flows, if there are any, and opens
+    /// `leaving`.
+    fn grow_from(&mut self, kind: u8, taken: &[Flow], leaving: usize) {
         let deepest = taken.iter().map(|flow| flow.depth).max();
         if let Some(depth) = deepest {
             let node = self.parts.add_node(kind, 0);
-            for flow in &taken {
+            for flow in taken {
                 self.close(*flow, node);
             }
             let is_object = taken.iter().any(|flow| flow.kind == OBJECT);

@@ -1,8 +1,28 @@
-//! What the tests share: hex, bounds lists, refusals and the paper's small event.
+//! What the tests share: kinds, hex, bounds lists, refusals and the paper's small
+//! event.
 
 #![allow(dead_code)]
 
 use reading::Answer;
+
+// The kinds of nodes.
+pub const INITIAL: u8 = 1;
+pub const ACTION: u8 = 2;
+pub const INPUT_PIN: u8 = 3;
+pub const OUTPUT_PIN: u8 = 4;
+pub const BUFFER: u8 = 5;
+pub const INCOMING: u8 = 6;
+pub const OUTGOING: u8 = 7;
+pub const DECISION: u8 = 8;
+pub const MERGE: u8 = 9;
+pub const FORK: u8 = 10;
+pub const JOIN: u8 = 11;
+pub const FLOW_FINAL: u8 = 12;
+pub const ACTIVITY_FINAL: u8 = 13;
+
+// The kinds of edges.
+pub const CONTROL: u8 = 0;
+pub const OBJECT: u8 = 1;
 
 /// The bytes written in hex; blanks don't count.
 pub fn hex(text: &str) -> Vec<u8> {

@@ -1,0 +1,91 @@
+//! Events drawn by hand, node by node and edge by edge, at one point; and what a sheet lists.
+
+use reading::random::Parts;
+use reading::Answer;
+
+pub const INITIAL: u8 = 1;
+pub const ACTION: u8 = 2;
+pub const INPUT_PIN: u8 = 3;
+pub const OUTPUT_PIN: u8 = 4;
+pub const BUFFER: u8 = 5;
+pub const INCOMING_PARAMETER: u8 = 6;
+pub const OUTGOING_PARAMETER: u8 = 7;
+pub const DECISION: u8 = 8;
+pub const MERGE: u8 = 9;
+pub const FORK: u8 = 10;
+pub const JOIN: u8 = 11;
+pub const FLOW_FINAL: u8 = 12;
+pub const ACTIVITY_FINAL: u8 = 13;
+
+pub const CONTROL: u8 = 0;
+pub const OBJECT: u8 = 1;
+
+pub const ROOM: usize = 4096;
+/// How many enumeration steps the reading may take for a call.
+pub const BUDGET: u64 = 100_000;
+
+pub const fn refused(number: u8, place: u8) -> Answer {
+    Answer::Refused { number, place }
+}
+
+/// What sheet, pick and step are given but for bounds.
+#[derive(Clone, Debug)]
+pub struct Point {
+    pub table: Vec<u8>,
+    pub marking: Vec<u8>,
+    pub guards: Vec<u8>,
+}
+
+impl Point {
+    /// With each of these values in its node, a token on each edge of an initial node, all else empty and all guards 1.
+    pub fn of(parts: &Parts, held: &[(u8, u32)]) -> Point {
+        let tokens = vec![1; parts.edges.iter().filter(|edge| parts.nodes[usize::from(edge[1])][0] == INITIAL).count()];
+        Point { table: parts.write(), marking: marking(parts, held, &tokens), guards: vec![1; parts.edges.len()] }
+    }
+
+    pub fn inputs<'a>(&'a self, bounds: &'a [u8], choice: &'a [u8]) -> [&'a [u8]; 5] {
+        [&self.table, &self.marking, &self.guards, bounds, choice]
+    }
+}
+
+/// The marking with each of these values in its node, in this order, so many tokens on each edge of an initial node, and all else empty. An action runs if an
+/// input pin of it holds a value.
+pub fn marking(parts: &Parts, held: &[(u8, u32)], tokens: &[u8]) -> Vec<u8> {
+    let mut body = vec![1, 0];
+    for (node, [kind, ..]) in (0..).zip(&parts.nodes) {
+        let values: Vec<u32> = held.iter().filter(|(holds, _)| *holds == node).map(|(_, value)| *value).collect();
+        match *kind {
+            INPUT_PIN..=OUTGOING_PARAMETER => {
+                body.push(values.len() as u8);
+                body.extend(values.iter().flat_map(|value| value.to_be_bytes()));
+            }
+            ACTION => body.push(u8::from(held.iter().any(|(holds, _)| parts.nodes[usize::from(*holds)][..2] == [INPUT_PIN, node]))),
+            _ => {}
+        }
+    }
+    let mut tokens = tokens.iter();
+    for [kind, source, ..] in &parts.edges {
+        match parts.nodes[usize::from(*source)][0] {
+            INITIAL => body.push(*tokens.next().expect("tokens for each edge")),
+            ACTION if *kind == CONTROL => body.push(0),
+            _ => {}
+        }
+    }
+    framed(&body)
+}
+
+/// The bytes with their length before them.
+pub fn framed(body: &[u8]) -> Vec<u8> {
+    [&(body.len() as u16).to_be_bytes()[..], body].concat()
+}
+
+/// A sheet's ends: last edge, value, number of paths.
+pub fn listed(sheet: &[u8]) -> Vec<(u8, Option<u32>, u8)> {
+    let mut ends = Vec::new();
+    let mut rest = &sheet[4..];
+    while let [edge, has_value, a, b, c, d, paths, after @ ..] = rest {
+        ends.push((*edge, Some(u32::from_be_bytes([*a, *b, *c, *d])).filter(|_| *has_value == 1), *paths));
+        rest = (0..*paths).fold(after, |rest, _| &rest[1 + usize::from(rest[0])..]);
+    }
+    ends
+}
