@@ -40,6 +40,7 @@ value (first e v) = v
 value (over o e) = value o
 value (with o p) = orElse (value o) (value p)
 
+-- whether there is one
 abbrev pub isSome : Option ℕ → Bool
 isSome none = false
 isSome (some v) = true
