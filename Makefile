@@ -13,7 +13,7 @@ sheet:
 test:
 	@tools/gate
 
-# the six operations timed beside the plain reading, on this machine's own processor
+# the seven operations timed beside the plain reading, on this machine's own processor
 bench:
 	@tools/archive
 	@tools/cargo run --release --example bench

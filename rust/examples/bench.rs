@@ -1,8 +1,9 @@
-//! The six operations timed beside the plain reading of the paper, in one run and build: the small event, a day of 41 nodes and 40 edges with 11 ends, the
+//! The seven operations timed beside the plain reading of the paper, in one run and build: the small event, a day of 41 nodes and 40 edges with 11 ends, the
 //! limits, and events on which joins or picks are hard: forks of decisions, and what was hunted for by climbing (`crates/vectors/worst.txt`). Prints medians
-//! in microseconds, how many times as long the reading takes, the bytes of stack that the engine's call takes, and for the last the states that pick's
-//! search visits: the archive doesn't count them, the gate holds the engine to the numbers of that file. The day's sheet and pick are timed under a long
-//! bounds list too, and a line says how many times as long that takes as without bounds.
+//! in microseconds, how many times as long the reading takes, the bytes of stack that the engine's call takes, and for the last the states that the searches
+//! of pick and why visit (why's at its levels before the last, all in all): the archive doesn't count them, the gate holds the engine to the numbers of that
+//! file. The day's sheet and pick are timed under a long bounds list too, and a line says how many times as long that takes as without bounds. Lines say how
+//! many times as long why takes as pick for the same node.
 //!
 //!     cargo run --release --example bench
 
@@ -23,6 +24,8 @@ const ROUNDS: usize = 7;
 const LEAST_ROUND: Duration = Duration::from_millis(2);
 /// The reading stops after so many enumeration steps; what it then took is a lower bound.
 const BUDGET: u64 = 300_000;
+/// For why the reading goes through every set of ends, and stops after so many: the day's are fewer.
+const SETS: u64 = 4_096;
 
 /// What the operations are given at one point of an event.
 struct Point {
@@ -34,6 +37,8 @@ struct Point {
     marking: Vec<u8>,
     guards: Vec<u8>,
     choice: Vec<u8>,
+    /// For why, and pick beside it: a node that has ends.
+    node: u8,
     /// For finish: a marking in which the action runs, and its results.
     running: Vec<u8>,
     action: u8,
@@ -42,11 +47,11 @@ struct Point {
 
 fn main() -> Result<(), Refusal> {
     println!("{:8} {:18} {:>11} {:>12} {:>9} {:>7} {:>7}", "", "", "engine us", "reading us", "ratio", "stack", "states");
-    all_six(&small()?);
+    all_seven(&small()?);
     let day = day()?;
-    let without = all_six(&day);
+    let without = all_seven(&day);
     under_bounds(&day, without);
-    all_six(&limits()?);
+    all_seven(&limits()?);
     for (number, event) in HARD.iter().enumerate() {
         let name = format!("hard {}", number + 1);
         let (table, marking, guards) = (hex(event.table), hex(event.marking), hex(event.guards));
@@ -55,26 +60,35 @@ fn main() -> Result<(), Refusal> {
             pick(&format!("{name} for {node}"), &table, &marking, &guards, &NO_BOUNDS, *node);
         }
     }
-    let slowest = worst().fold(0.0, f64::max);
+    let times: Vec<(f64, Option<f64>)> = worst().collect();
+    let slowest = times.iter().map(|(pick, _)| *pick).fold(0.0, f64::max);
     println!("slowest of the picks with states: {slowest:.1} us");
+    let named: Vec<(f64, f64)> = times.into_iter().filter_map(|(pick, why)| Some((pick, why?))).collect();
+    let (picks, whys) = named.iter().fold((0.0, 0.0), |(picks, whys), (pick, why)| (picks + pick, whys + why));
+    let ratios = named.iter().map(|(pick, why)| why / pick);
+    let (least, most) = (ratios.clone().fold(f64::MAX, f64::min), ratios.fold(0.0, f64::max));
+    let slowest = named.iter().map(|(_, why)| *why).fold(0.0, f64::max);
+    println!("why for their nodes: {:.2} times as long as pick in all, {least:.2} to {most:.2} times each; slowest {slowest:.1} us", whys / picks);
     Ok(())
 }
 
-/// The picks that are known to be hard, with the states that they visit: how long each takes.
-fn worst() -> impl Iterator<Item = f64> {
+/// The events on which searches are known to be hard, with the states that they visit: how long pick takes and, where a node is named, why.
+fn worst() -> impl Iterator<Item = (f64, Option<f64>)> {
     let lines = include_str!("../../crates/vectors/worst.txt").lines().enumerate();
     lines.filter(|(_, line)| !line.starts_with('#')).map(|(number, line)| {
         let words: Vec<&str> = line.split(' ').collect();
         let (table, marking, guards) = (hex(words[0]), hex(words[1]), hex(words[2]));
         let node: u8 = words[3].parse().expect("a node");
         let name = format!("worst {} for {node}", number + 1);
-        row(
+        let pick = row(
             "pick",
             &name,
             words[4],
             |out| keshmirun::pick(&table, &marking, Terms::new(&guards), node, out),
             || reading::pick_within(&table, &marking, &guards, &NO_BOUNDS, node, 4096, BUDGET),
-        )
+        );
+        let levels: usize = words[5..].iter().map(|states| states.parse::<usize>().expect("a number")).sum();
+        (pick, (node != NO_NODE).then(|| why(&name, &levels.to_string(), &table, &marking, &guards, node)))
     })
 }
 
@@ -85,7 +99,7 @@ fn small() -> Result<Point, Refusal> {
     let marking = written(|out| keshmirun::start(&table, &values, out))?;
     let running = written(|out| keshmirun::step(&table, &marking, Terms::new(&[1; 5]), &[1], out))?;
     let name = String::from("small event");
-    Ok(Point { name, values, marking, guards: vec![1; 5], choice: vec![1], running, action: 5, results: Vec::new(), table })
+    Ok(Point { name, values, marking, guards: vec![1; 5], choice: vec![1], node: 5, running, action: 5, results: Vec::new(), table })
 }
 
 /// The day when its round is called: the seats are full, two are left over, and both matches begin; then the first of them ends.
@@ -104,14 +118,14 @@ fn day() -> Result<Point, Refusal> {
     let choice = written(|out| keshmirun::pick(&table, &marking, Terms::new(&guards), NO_NODE, out))?;
     let running = written(|out| keshmirun::step(&table, &marking, Terms::new(&guards), &choice, out))?;
     let results = [list(&[17]), list(&[40])].concat();
-    Ok(Point { name: String::from("day"), table, values, marking, guards, choice, running, action: 10, results })
+    Ok(Point { name: String::from("day"), table, values, marking, guards, choice, node: 10, running, action: 10, results })
 }
 
 fn limits() -> Result<Point, Refusal> {
     let table = events::limits().table;
     let (marking, running) = (events::limits_marking(false), events::limits_marking(true));
     let (guards, choice) = (vec![1; 64], (0..20).collect());
-    Ok(Point { name: String::from("limits"), table, values: Vec::new(), marking, guards, choice, running, action: 13, results: Vec::new() })
+    Ok(Point { name: String::from("limits"), table, values: Vec::new(), marking, guards, choice, node: 12, running, action: 13, results: Vec::new() })
 }
 
 /// What an operation writes.
@@ -121,13 +135,17 @@ fn written(operation: impl Fn(&mut [u8]) -> Result<usize, Refusal>) -> Result<Ve
     Ok(out[..length].to_vec())
 }
 
-/// How long sheet takes, and pick.
-fn all_six(point: &Point) -> [f64; 2] {
-    let Point { name, table, values, marking, guards, choice, running, action, results } = point;
+/// How long sheet takes, and pick with none named.
+fn all_seven(point: &Point) -> [f64; 2] {
+    let Point { name, table, values, marking, guards, choice, node, running, action, results } = point;
     row("check", name, "", |_| keshmirun::check(table).map(|_| 0), || Some(reading::check(table)));
     row("start", name, "", |out| keshmirun::start(table, values, out), || Some(reading::start(table, values, 4096)));
     let sheet = sheet(name, table, marking, guards, &NO_BOUNDS);
-    let pick = pick(name, table, marking, guards, &NO_BOUNDS, NO_NODE);
+    let none_named = pick(name, table, marking, guards, &NO_BOUNDS, NO_NODE);
+    let for_node = format!("{name} for {node}");
+    let named = pick(&for_node, table, marking, guards, &NO_BOUNDS, *node);
+    let why = why(&for_node, "", table, marking, guards, *node);
+    println!("{for_node}: why takes {:.2} times as long as pick", why / named);
     row(
         "step",
         name,
@@ -142,7 +160,7 @@ fn all_six(point: &Point) -> [f64; 2] {
         |out| keshmirun::finish(table, running, *action, results, out),
         || Some(reading::finish(table, running, *action, results, 4096)),
     );
-    [sheet, pick]
+    [sheet, none_named]
 }
 
 /// Sheet and pick with all object edges listed and nothing barred, so that all else is as without bounds.
@@ -173,6 +191,20 @@ fn pick(name: &str, table: &[u8], marking: &[u8], guards: &[u8], bounds: &[u8], 
         "",
         |out| keshmirun::pick(table, marking, Terms::new(guards).with_bounds(bounds), node, out),
         || reading::pick_within(table, marking, guards, bounds, node, 4096, BUDGET),
+    )
+}
+
+fn why(name: &str, states: &str, table: &[u8], marking: &[u8], guards: &[u8], node: u8) -> f64 {
+    row(
+        "why",
+        name,
+        states,
+        |out| {
+            let reason = keshmirun::why(table, marking, Terms::new(guards), node)?;
+            out[0] = reason.number();
+            Ok(1)
+        },
+        || reading::why_within(table, marking, guards, &NO_BOUNDS, node, 4096, SETS),
     )
 }
 

@@ -1,9 +1,10 @@
-/* The six operations of the Keshmirun engine, for C. Link with libkeshmirun.a of the processor that you build for: target/archive has a folder for
+/* The seven operations of the Keshmirun engine, for C. Link with libkeshmirun.a of the processor that you build for: target/archive has a folder for
  * each, x86_64-unknown-linux-gnu and aarch64-unknown-linux-gnu. All names begin with `keshmirun_`, so that none clashes with a name of yours.
  *
  * A slice is a pointer and a length. An operation reads its inputs, writes its reply to the front of `out`, and keeps nothing; a refused call
  * changes no byte. Inputs and `out` must not overlap. Formats and numbers are those of the paper "Token flow, tables and markings" and, for bounds, of
- * the wish "Guards that read the result"; which ends compete is the paper's with the wish "One round token for all tables". */
+ * the wish "Guards that read the result"; which ends compete is the paper's with the wish "One round token for all tables"; reasons are those of the wish
+ * "Why can't we pair?". */
 #ifndef KESHMIRUN_H
 #define KESHMIRUN_H
 
@@ -14,8 +15,9 @@
 extern "C" {
 #endif
 
-/* The version of these calls; header and archive must be of the same. 1 had sheet, pick and step without bounds; those forms are gone. */
-#define KESHMIRUN_VERSION 2
+/* The version of these calls; header and archive must be of the same. 1 had sheet, pick and step without bounds; those forms are gone. 2 had no why; what it
+ * had is the same in 3. */
+#define KESHMIRUN_VERSION 3
 
 /* Every operation answers one word: refusal * 2^48 + place * 2^32 + length. The refusal is 0 if there is none, and its place and the length are then 0
  * and what was written. */
@@ -23,8 +25,16 @@ extern "C" {
 #define KESHMIRUN_PLACE(answer) ((unsigned)((answer) >> 32) & 0xffffu)
 #define KESHMIRUN_LENGTH(answer) ((size_t)((answer) & 0xffffffffu))
 
-/* The node for pick that names none. */
+/* The node for pick and why that names none. */
 #define KESHMIRUN_NO_NODE 255
+
+/* The reasons that why writes: the first level at which no choice for a node is left, that is, none with an end of it. */
+#define KESHMIRUN_WHY_ACCEPTABLE 0      /* an acceptable one exists, or no node is named */
+#define KESHMIRUN_WHY_NO_END 1          /* no end belongs to the node, or it doesn't exist */
+#define KESHMIRUN_WHY_OWN_DESTINATION 2 /* none satisfies its own destination rule, a pin's being its action's */
+#define KESHMIRUN_WHY_COMPETING 3       /* none that does so is free of competing ends */
+#define KESHMIRUN_WHY_FORKS 4           /* none of those passes all forks whole */
+#define KESHMIRUN_WHY_DESTINATIONS 5    /* none of those satisfies all destinations */
 
 /* Room for any marking or sheet, and for any choice. */
 #define KESHMIRUN_ROOM 4096
@@ -51,6 +61,11 @@ uint64_t keshmirun_sheet(const uint8_t *table, size_t table_len, const uint8_t *
  * it. Refusals 1 to 8, 13, 17, 18. */
 uint64_t keshmirun_pick(const uint8_t *table, size_t table_len, const uint8_t *marking, size_t marking_len, const uint8_t *guards, size_t guards_len,
                         const uint8_t *bounds, size_t bounds_len, uint8_t node, uint8_t *out, size_t out_len);
+
+/* Writes one byte, the reason for which no acceptable choice has an end of the node named; it is KESHMIRUN_WHY_ACCEPTABLE exactly if pick isn't refused with 13.
+ * Refusals 1 to 8, 17, 18. */
+uint64_t keshmirun_why(const uint8_t *table, size_t table_len, const uint8_t *marking, size_t marking_len, const uint8_t *guards, size_t guards_len,
+                       const uint8_t *bounds, size_t bounds_len, uint8_t node, uint8_t *out, size_t out_len);
 
 /* Writes the marking after a choice of ends is taken; `choice`: rising numbers of the sheet's ends, under the same guards and bounds. Results that wait at a
  * join with the same tokens may be taken together, and spend them once. Refusals 1 to 12, 17, 18. */

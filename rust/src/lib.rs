@@ -1,11 +1,16 @@
 //! Safe calls of the Keshmirun engine, which runs a card game tournament's day drawn as an activity diagram.
 //!
-//! The engine itself is the archive `libkeshmirun.a`, whose every function is proved to follow the paper. This crate declares its operations, hands
+//! The engine itself is the archive `libkeshmirun.a`, whose every function is proved to follow the paper. This crate declares its seven operations, hands
 //! them slices, and takes the answer word apart. It holds nothing between calls.
+//!
+//! [`check`] judges a table, and [`start`] begins its activity. [`sheet`] shows the ends on offer, [`pick`] chooses among them, [`why`] says what is in the
+//! way where it can't, and [`step`] takes a choice. [`finish`] ends an action.
 
+mod reason;
 mod refusal;
 mod terms;
 
+pub use reason::Reason;
 pub use refusal::Refusal;
 pub use terms::{bounds_list, Terms, NO_BOUNDS};
 
@@ -35,6 +40,21 @@ mod archive {
 
         #[link_name = "keshmirun_pick"]
         pub fn pick(
+            table: *const u8,
+            table_len: usize,
+            marking: *const u8,
+            marking_len: usize,
+            guards: *const u8,
+            guards_len: usize,
+            bounds: *const u8,
+            bounds_len: usize,
+            node: u8,
+            out: *mut u8,
+            out_len: usize,
+        ) -> u64;
+
+        #[link_name = "keshmirun_why"]
+        pub fn why(
             table: *const u8,
             table_len: usize,
             marking: *const u8,
@@ -184,7 +204,7 @@ pub fn sheet(table: &[u8], marking: &[u8], terms: Terms, out: &mut [u8]) -> Resu
     unpacked(word)
 }
 
-/// The number that names no node to [`pick`].
+/// The number that names no node to [`pick`] and [`why`].
 pub const NO_NODE: u8 = 255;
 
 /// Writes the first acceptable choice of ends to the front of `out`, one byte an end, and returns how many it has.
@@ -194,8 +214,8 @@ pub const NO_NODE: u8 = 255;
 /// on the same terms. 20 bytes hold any choice. A refused call leaves `out` as it was.
 ///
 /// # Errors
-/// Refusals 1 to 8 and 18 as for [`sheet`], 13 (a node is named and no acceptable choice has an end of it; the place is that node) and 17 (`out` is shorter
-/// than the choice).
+/// Refusals 1 to 8 and 18 as for [`sheet`], 13 (a node is named and no acceptable choice has an end of it; the place is that node, and [`why`] says what is in
+/// the way) and 17 (`out` is shorter than the choice).
 ///
 /// # Examples
 /// ```
@@ -239,6 +259,60 @@ pub fn pick(table: &[u8], marking: &[u8], terms: Terms, node: u8, out: &mut [u8]
         )
     };
     unpacked(word)
+}
+
+/// Names the reason for which no acceptable choice has an end of a node: the first level at which no choice is left.
+///
+/// It takes what [`pick`] takes but room, since it writes one byte, and lends that itself. An end belongs to its target and, for a pin, to its action too; a
+/// pin's own rule is its action's. It is [`Reason::Acceptable`] exactly if `pick` isn't refused with 13 on the same terms, as for [`NO_NODE`], and a node that
+/// doesn't exist has no end.
+///
+/// # Errors
+/// Refusals 1 to 8 and 18 as for [`sheet`].
+///
+/// # Examples
+/// ```
+/// use keshmirun::{Reason, Terms};
+///
+/// // the paper's small event with a fork (2) in place of the decision: results go to the buffer (6) and, by the join, to the pin (4) of the action (5)
+/// let table = [
+///     0, 0x33, 1, 7, 5, //
+///     1, 255, 0, 0, 6, 255, 0, 4, 10, 255, 0, 0, 11, 255, 0, 0, 3, 5, 1, 1, 2, 255, 0, 0, 5, 255, 0, 2, //
+///     0, 0, 3, 0, 1, 1, 2, 0, 1, 2, 3, 1, 1, 2, 6, 1, 1, 3, 4, 0,
+/// ];
+/// let marking = [0, 15, 1, 0, 2, 0, 0, 0, 7, 0, 0, 0, 9, 0, 0, 0, 1];
+/// assert_eq!(keshmirun::why(&table, &marking, Terms::new(&[1; 5]), 5), Ok(Reason::Acceptable));
+///
+/// // the buffer full: it has no room by its own rule, and the action's ends would pass the fork whole only with the buffer's
+/// let full = [0, 23, 1, 0, 2, 0, 0, 0, 7, 0, 0, 0, 9, 0, 0, 2, 0, 0, 0, 1, 0, 0, 0, 2, 1];
+/// assert_eq!(keshmirun::why(&table, &full, Terms::new(&[1; 5]), 6), Ok(Reason::OwnDestination));
+/// assert_eq!(keshmirun::why(&table, &full, Terms::new(&[1; 5]), 5), Ok(Reason::Destinations));
+/// assert_eq!(keshmirun::pick(&table, &full, Terms::new(&[1; 5]), 5, &mut [0; 20]).unwrap_err().number, 13);
+///
+/// // nothing ends at a fork
+/// assert_eq!(keshmirun::why(&table, &full, Terms::new(&[1; 5]), 2), Ok(Reason::NoEnd));
+/// ```
+pub fn why(table: &[u8], marking: &[u8], terms: Terms, node: u8) -> Result<Reason, Refusal> {
+    let Terms { guards, bounds } = terms;
+    // no reason, so that a byte that isn't written can't be taken for one
+    let mut byte = [u8::MAX];
+    // SAFETY: the archive reads and writes only the bytes behind the pointers, as many as their lengths say, and keeps nothing.
+    let word = unsafe {
+        archive::why(
+            table.as_ptr(),
+            table.len(),
+            marking.as_ptr(),
+            marking.len(),
+            guards.as_ptr(),
+            guards.len(),
+            bounds.as_ptr(),
+            bounds.len(),
+            node,
+            byte.as_mut_ptr(),
+            byte.len(),
+        )
+    };
+    unpacked(word).map(|_| Reason::of(byte[0]))
 }
 
 /// Writes the marking after a choice of ends is taken to the front of `out`, and returns its length.

@@ -5,7 +5,7 @@ use std::ops::RangeInclusive;
 /// The bounds list of no edge, with which every answer is the guards' alone.
 pub const NO_BOUNDS: [u8; 4] = [0, 2, 1, 0];
 
-/// The terms of a [`sheet`](crate::sheet), [`pick`](crate::pick) or [`step`](crate::step): guards, with a bounds list beside them or none.
+/// The terms of a [`sheet`](crate::sheet), [`pick`](crate::pick), [`why`](crate::why) or [`step`](crate::step): guards, with a bounds list beside them or none.
 ///
 /// They are lent as bytes and judged by the call: 7 is its refusal for the guards, 18 for the bounds list. What the engine comes to take beside these two will
 /// be a further `with_..`, and callers of today's stay as they are.

@@ -7,7 +7,7 @@ mod common;
 use common::drawn::*;
 use common::points::Walk;
 use common::vectors::{all, Call, Operation};
-use common::{answered, limits};
+use common::{answered, limits, whys};
 use keshmirun::{bounds_list, Refusal, Terms, NO_BOUNDS, NO_NODE};
 use reading::random::{choice, Event, Parts, Rng};
 use reading::Answer;
@@ -615,7 +615,7 @@ fn after_7_and_before_8() {
         (rivals(21), 8, 0),
         (offers(5, MERGE), 8, 0),
     ] {
-        for operation in [Operation::Sheet, Operation::Pick, Operation::Step] {
+        for operation in [Operation::Sheet, Operation::Pick, Operation::Why, Operation::Step] {
             for room in [0, ROOM] {
                 assert_order(operation, &point, 255, &[9, 9], room, number, place);
             }
@@ -638,6 +638,8 @@ fn before_9_to_13_and_17() {
     assert_order(Operation::Pick, &small, 254, &[], ROOM, 13, 254);
     assert_order(Operation::Sheet, &small, 0, &[], 27, 17, 0);
     assert_order(Operation::Pick, &small, NO_NODE, &[], 0, 17, 0);
+    assert_order(Operation::Why, &small, 5, &[], 0, 17, 0);
+    assert_order(Operation::Why, &small, NO_NODE, &[], 0, 17, 0);
     assert_order(Operation::Step, &small, 0, &[], 16, 17, 0);
 }
 
@@ -655,13 +657,14 @@ fn all_values(table: &[u8]) -> Vec<u8> {
 fn outside_calls_without_bounds() {
     let mut made = 0;
     for (Call { operation, room, node, slices: [table, marking, guards, bounds, choice] }, answer) in all() {
-        let is_bounded = matches!(operation, Operation::Sheet | Operation::Pick | Operation::Step);
+        let is_bounded = matches!(operation, Operation::Sheet | Operation::Pick | Operation::Why | Operation::Step);
         if let (Some(expected), true, true) = (&answer, is_bounded, bounds == NO_BOUNDS) {
             let terms = Terms::new(&guards);
             let mut out = vec![0; room];
             let alone = match operation {
                 Operation::Sheet => keshmirun::sheet(&table, &marking, terms, &mut out),
                 Operation::Pick => keshmirun::pick(&table, &marking, terms, node, &mut out),
+                Operation::Why => whys::into(&table, &marking, &guards, &NO_BOUNDS, node, &mut out),
                 _ => keshmirun::step(&table, &marking, terms, &choice, &mut out),
             };
             let alone = alone.map_or_else(|Refusal { number, place }| refused(number, place), |length| Answer::Good(out[..length].to_vec()));

@@ -1,4 +1,4 @@
-//! `include/keshmirun.h` compiled by a C compiler, its six calls made from C, also beside a library that has a `check`, `start` and `step` of its own.
+//! `include/keshmirun.h` compiled by a C compiler, its seven calls made from C, also beside a library that has a `check`, `start` and `step` of its own.
 
 #[path = "common/programs.rs"]
 mod programs;
@@ -6,7 +6,7 @@ mod programs;
 use programs::{archive, compiled, ran};
 
 #[test]
-fn six_calls() {
+fn seven_calls() {
     let ended = ran("small_event", &[compiled("small_event.c"), archive()]);
     assert_eq!(ended, Some(0), "the line of small_event.c that doesn't hold");
 }

@@ -7,3 +7,4 @@ int sheet(void) { return 3; }
 int pick(void) { return 4; }
 int step(int value) { return value - 1; }
 int finish(void) { return 6; }
+int why(void) { return 7; }

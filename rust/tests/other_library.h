@@ -5,3 +5,4 @@ int sheet(void);
 int pick(void);
 int step(int value);
 int finish(void);
+int why(void);

@@ -17,8 +17,9 @@ int main(void) {
     HOLDS(keshmirun_start(table, sizeof table, guards, 0, marking, sizeof marking) == 6 && marking[5] == 1);
     HOLDS(keshmirun_sheet(table, sizeof table, marking, 6, TERMS, ends, sizeof ends) == 13 && ends[3] == 1);
     HOLDS(keshmirun_pick(table, sizeof table, marking, 6, TERMS, 1, picked, sizeof picked) == 1 && picked[0] == 0);
+    HOLDS(keshmirun_why(table, sizeof table, marking, 6, TERMS, 0, picked, sizeof picked) == 1 && picked[0] == KESHMIRUN_WHY_NO_END);
     HOLDS(keshmirun_step(table, sizeof table, marking, 6, TERMS, choice, sizeof choice, next, sizeof next) == 6 && next[4] == 1);
     HOLDS(keshmirun_finish(table, sizeof table, next, 6, 1, guards, 0, after, sizeof after) == 6 && after[4] == 0);
-    HOLDS(check(1) == 2 && start() == 2 && sheet() == 3 && pick() == 4 && step(6) == 5 && finish() == 6);
+    HOLDS(check(1) == 2 && start() == 2 && sheet() == 3 && pick() == 4 && step(6) == 5 && finish() == 6 && why() == 7);
     return 0;
 }

@@ -1,6 +1,6 @@
 //! A program that has functions `check`, `start`, `step` .. of its own under their plain names, beside the crate's: each call reaches the one that is meant.
 
-use keshmirun::Terms;
+use keshmirun::{Reason, Terms};
 
 #[no_mangle]
 pub extern "C" fn check(value: u64) -> u64 {
@@ -32,6 +32,11 @@ pub extern "C" fn finish() -> u64 {
     6
 }
 
+#[no_mangle]
+pub extern "C" fn why() -> u64 {
+    7
+}
+
 #[test]
 fn each_has_its_own() {
     // one initial node, one action, and the control edge between them
@@ -43,9 +48,10 @@ fn each_has_its_own() {
     assert_eq!(out[..6], marking);
     assert_eq!(keshmirun::sheet(&table, &marking, Terms::new(&[1]), &mut out), Ok(13));
     assert_eq!(keshmirun::pick(&table, &marking, Terms::new(&[1]), 1, &mut out), Ok(1));
+    assert_eq!(keshmirun::why(&table, &marking, Terms::new(&[1]), 0), Ok(Reason::NoEnd));
     assert_eq!(keshmirun::step(&table, &marking, Terms::new(&[1]), &[0], &mut out), Ok(6));
     let running = [0, 4, 1, 0, 1, 0];
     assert_eq!(out[..6], running);
     assert_eq!(keshmirun::finish(&table, &running, 1, &[], &mut out), Ok(6));
-    assert_eq!((check(1), start(), sheet(), pick(), step(6), finish()), (2, 2, 3, 4, 5, 6));
+    assert_eq!((check(1), start(), sheet(), pick(), step(6), finish(), why()), (2, 2, 3, 4, 5, 6, 7));
 }

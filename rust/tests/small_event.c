@@ -1,11 +1,11 @@
-/* The paper's small event by the six calls of keshmirun.h, without bounds and under some. Ends with 0 if every answer is the paper's, else with the line
+/* The paper's small event by the seven calls of keshmirun.h, without bounds and under some. Ends with 0 if every answer is the paper's, else with the line
  * that is not. */
 #include "keshmirun.h"
 
 #include <string.h>
 
-#if KESHMIRUN_VERSION != 2
-#error "these are the calls of version 2"
+#if KESHMIRUN_VERSION != 3
+#error "these are the calls of version 3"
 #endif
 
 static const uint8_t table[] = {0, 0x33, 1, 7, 5, 1, 255, 0, 0, 6, 255, 0, 4, 8, 255, 0, 0, 11, 255, 0, 0, 3, 5, 1, 1, 2, 255, 0, 0, 5, 255, 0, 2,
@@ -22,11 +22,17 @@ static const uint8_t from_8_to_9[] = {0, 11, 1, 1, 3, 0, 0, 0, 8, 0, 0, 0, 9};
 static const uint8_t ends_left[] = {0, 16, 1, 1, 4, 1, 0, 0, 0, 7, 2, 2, 0, 4, 3, 1, 2, 4};
 static const uint8_t first_end[] = {0};
 static const uint8_t on_a_control_edge[] = {0, 11, 1, 1, 0, 0, 0, 0, 8, 0, 0, 0, 9};
+/* the buffer holds two, which is all that it may */
+static const uint8_t full[] = {0, 23, 1, 0, 2, 0, 0, 0, 7, 0, 0, 0, 9, 0, 0, 2, 0, 0, 0, 1, 0, 0, 0, 2, 1};
 
 static uint8_t out[KESHMIRUN_ROOM];
 
 static int wrote(uint64_t answer, const uint8_t *reply, size_t length) {
     return KESHMIRUN_REFUSAL(answer) == 0 && KESHMIRUN_PLACE(answer) == 0 && KESHMIRUN_LENGTH(answer) == length && memcmp(out, reply, length) == 0;
+}
+
+static int reason(uint64_t answer, unsigned byte) {
+    return answer == 1 && out[0] == byte;
 }
 
 static int refused(uint64_t answer, unsigned number, unsigned place) {
@@ -45,14 +51,21 @@ int main(void) {
     HOLDS(wrote(keshmirun_pick(EVENT(started), UNDER(keshmirun_no_bounds), 5, out, KESHMIRUN_MOST_ENDS), second_end, sizeof second_end));
     HOLDS(refused(keshmirun_pick(EVENT(started), UNDER(keshmirun_no_bounds), 2, out, KESHMIRUN_MOST_ENDS), 13, 2));
     HOLDS(wrote(keshmirun_pick(EVENT(started), UNDER(keshmirun_no_bounds), KESHMIRUN_NO_NODE, out, KESHMIRUN_MOST_ENDS), first_end, sizeof first_end));
+    HOLDS(reason(keshmirun_why(EVENT(started), UNDER(keshmirun_no_bounds), 5, out, sizeof out), KESHMIRUN_WHY_ACCEPTABLE));
+    HOLDS(reason(keshmirun_why(EVENT(started), UNDER(keshmirun_no_bounds), 2, out, 1), KESHMIRUN_WHY_NO_END));
+    HOLDS(reason(keshmirun_why(EVENT(full), UNDER(keshmirun_no_bounds), 6, out, 1), KESHMIRUN_WHY_OWN_DESTINATION));
+    HOLDS(reason(keshmirun_why(EVENT(full), UNDER(keshmirun_no_bounds), KESHMIRUN_NO_NODE, out, 1), KESHMIRUN_WHY_ACCEPTABLE));
+    HOLDS(refused(keshmirun_why(EVENT(started), UNDER(keshmirun_no_bounds), 5, out, 0), 17, 0));
     HOLDS(wrote(keshmirun_step(EVENT(started), UNDER(keshmirun_no_bounds), second_end, sizeof second_end, out, sizeof out), stepped, sizeof stepped));
     HOLDS(wrote(keshmirun_sheet(EVENT(started), UNDER(from_8_to_9), out, sizeof out), ends_left, sizeof ends_left));
     HOLDS(wrote(keshmirun_pick(EVENT(started), UNDER(from_8_to_9), 5, out, KESHMIRUN_MOST_ENDS), first_end, sizeof first_end));
     HOLDS(refused(keshmirun_pick(EVENT(started), UNDER(from_8_to_9), 6, out, KESHMIRUN_MOST_ENDS), 13, 6));
+    HOLDS(reason(keshmirun_why(EVENT(started), UNDER(from_8_to_9), 6, out, 1), KESHMIRUN_WHY_NO_END));
     HOLDS(wrote(keshmirun_step(EVENT(started), UNDER(from_8_to_9), first_end, sizeof first_end, out, sizeof out), stepped, sizeof stepped));
     HOLDS(refused(keshmirun_step(EVENT(started), UNDER(from_8_to_9), second_end, sizeof second_end, out, sizeof out), 9, 0));
     HOLDS(refused(keshmirun_sheet(EVENT(started), UNDER(on_a_control_edge), out, sizeof out), 18, 0));
     HOLDS(refused(keshmirun_pick(EVENT(started), guards, sizeof guards, from_8_to_9, sizeof from_8_to_9 - 1, 5, out, KESHMIRUN_MOST_ENDS), 18, 0));
+    HOLDS(refused(keshmirun_why(EVENT(started), UNDER(on_a_control_edge), 5, out, 1), 18, 0));
     HOLDS(refused(keshmirun_step(EVENT(started), guards, sizeof guards, keshmirun_no_bounds, 0, first_end, sizeof first_end, out, sizeof out), 18, 0));
     HOLDS(wrote(keshmirun_finish(EVENT(stepped), 5, values, 0, out, sizeof out), finished, sizeof finished));
     return 0;

@@ -1,6 +1,6 @@
 //! The deepest call's stack, held to what a small worker thread has: no theorem bounds the machine's stack, so this does. The calls are those of the outside
-//! vectors and of the worst events known for pick's search, an event with everything at its limit, one with the longest bounds list, and random ones near the
-//! sizes.
+//! vectors and of the worst events known for the searches of pick and why, an event with everything at its limit, one with the longest bounds list, and random
+//! ones near the sizes.
 
 mod common;
 #[path = "../examples/events/mod.rs"]
@@ -27,15 +27,16 @@ fn depth(operation: impl Fn(&mut [u8]) -> Result<usize, Refusal> + Sync) -> usiz
     })
 }
 
-/// The deepest of sheet, step by what is picked, and pick for none and for each node.
+/// The deepest of sheet, step by what is picked, and pick and why for none and for each node.
 fn deepest_of_board(table: &[u8], marking: &[u8], terms: Terms) -> usize {
     let mut choice = [0; 20];
     let picked = keshmirun::pick(table, marking, terms, NO_NODE, &mut choice).unwrap_or(0);
     let sheet = depth(|out| keshmirun::sheet(table, marking, terms, out));
     let step = depth(|out| keshmirun::step(table, marking, terms, &choice[..picked], out));
-    let nodes = (0..table[3]).chain([NO_NODE]);
-    let pick = nodes.map(|node| depth(|out| keshmirun::pick(table, marking, terms, node, out))).max();
-    sheet.max(step).max(pick.unwrap_or(0))
+    let nodes = || (0..table[3]).chain([NO_NODE]);
+    let pick = nodes().map(|node| depth(|out| keshmirun::pick(table, marking, terms, node, out))).max();
+    let why = nodes().map(|node| depth(|_| keshmirun::why(table, marking, terms, node).map(|_| 1))).max();
+    sheet.max(step).max(pick.max(why).unwrap_or(0))
 }
 
 #[track_caller]

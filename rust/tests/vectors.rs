@@ -36,8 +36,8 @@ fn every_call() {
             freed += usize::from(is_freed(call, expected));
         }
     }
-    assert_eq!(made.len(), 6, "{made:?}");
-    assert!(made.values().sum::<usize>() >= 6_400, "{made:?}");
+    assert_eq!(made.len(), 7, "{made:?}");
+    assert!(made.values().sum::<usize>() >= 7_800 && made[&Operation::Why] >= 320, "{made:?}");
     assert!(bounds_refused >= 60, "{bounds_refused}");
     assert!(freed >= 70, "{freed}");
 }

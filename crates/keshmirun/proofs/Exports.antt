@@ -1,28 +1,32 @@
 -- The exported functions: what their callers learn from their contracts is `Leaves` of the paper's answers on what they are lent, so every theorem on
 -- `Leaves (AllowedBy ..)` is one on them (same bytes, same answer; enough room). Their words settle number, place and length, a pick's 0 and 13 mean what a
--- judge takes them for, with count 0 they leave what they left before there were bounds, and on the call of a case of the small event they leave its answer.
+-- judge takes them for, why's byte is the reason and is 0 exactly if pick's word isn't 13's, with count 0 they leave what they left before there were bounds, and
+-- on the call of a case of the small event they leave its answer.
 -- `a` are the arguments as lent, in their order, `word` is what is returned, `z` are the arguments at the end. Assumes nothing.
-use mathlib.Core.Path.{_≡_, refl, ap, _∙_, subst}
+use mathlib.Core.Path.{_≡_, refl, sym, ap, _∙_, subst}
 use mathlib.Core.Bool.{Bool, true, false, cond}
-use mathlib.Core.List.{List, []}
-use Prim.Native.Nat.{ℕ, _<_}
+use mathlib.Core.List.{List, [], _∷_}
+use Prim.Native.Nat.{ℕ, _≤_, _<_}
 use native.Mathlib.Omega.{arith}
 use lib.Dec.{leb}
 use lib.ListN.{length}
+use borrow.Author.Tests.{le-leb}
 use contract.Lifetimes.{Lfts}
 use denote.Triple.Clauses.{AtExit}
 use borrow.Fn.Kinds.{PK, RK, Dens, GoodsP, resT, endedOf, Out}
+use Rattle.paper.specs.Lists.{at}
 use Rattle.paper.specs.Answers.{Answer, refused, good}
 use Rattle.paper.specs.Offers.{terms, noBounds}
 use Rattle.paper.specs.Choices.{Board, board, taken}
-use Rattle.paper.specs.Operations.{packed, inRoom, Leaves, Only, sheet, step}
+use Rattle.paper.specs.Operations.{packed, inRoom, Reply, Leaves, Only, sheet, step, Reason, WhyIf, Why as WhyAllows}
 use Rattle.paper.proofs.Bools.{never}
 use Rattle.paper.proofs.Lengths.{length-zero}
 use Rattle.paper.proofs.Members.{In}
 use Rattle.paper.proofs.BeforeBounds.{sheetBefore, PickBefore, stepBefore, sheet-as-before, pick-as-before, step-as-before}
-use Rattle.paper.proofs.Calls.{Call, checks, starts, sheets, picks, steps, finishes, AllowedBy}
+use Rattle.paper.proofs.Calls.{Call, checks, starts, sheets, picks, whys, steps, finishes, AllowedBy}
 use Rattle.paper.proofs.SameAnswer.{Left, refused-left}
 use Rattle.paper.proofs.PickMeans.{Takable, HasEndOf, empty-means-nothing-can-be-taken, refused-means-none-for-the-node}
+use Rattle.paper.proofs.Reasons.{why-0-pick, why-13}
 use Rattle.paper.proofs.OneWord.{Says, SaysAnswer, says-answer}
 use Rattle.paper.proofs.SmallEvent.{Case, cases, small-event}
 use Rattle.keshmirun.proofs.check.Kinds as CheckKinds
@@ -33,6 +37,8 @@ use Rattle.keshmirun.proofs.sheet.Kinds as SheetKinds
 use Rattle.keshmirun.proofs.sheet.Reads as Sheet
 use Rattle.keshmirun.proofs.pick.Kinds as PickKinds
 use Rattle.keshmirun.proofs.pick.Reads as Pick
+use Rattle.keshmirun.proofs.why.Kinds as WhyKinds
+use Rattle.keshmirun.proofs.why.Reads as Why
 use Rattle.keshmirun.proofs.step.Kinds as StepKinds
 use Rattle.keshmirun.proofs.step.Reads as Step
 use Rattle.keshmirun.proofs.finish.Kinds as FinishKinds
@@ -57,6 +63,10 @@ sheet-promises κs a word z h = h
 pub pick-promises : Promises 5 PickKinds.ps PickKinds.r Pick.Learnt
     (λ κs a word z. Leaves (AllowedBy (picks (a .0 .now) (a .1 .0 .now) (terms (a .1 .1 .0 .now) (a .1 .1 .1 .0 .now)) (a .1 .1 .1 .1 .0))) word (a .1 .1 .1 .1 .1 .0 .now) (z .1 .1 .1 .1 .1 .0 .now))
 pick-promises κs a word z h = h
+
+pub why-promises : Promises 5 WhyKinds.ps WhyKinds.r Why.Learnt
+    (λ κs a word z. Leaves (AllowedBy (whys (a .0 .now) (a .1 .0 .now) (terms (a .1 .1 .0 .now) (a .1 .1 .1 .0 .now)) (a .1 .1 .1 .1 .0))) word (a .1 .1 .1 .1 .1 .0 .now) (z .1 .1 .1 .1 .1 .0 .now))
+why-promises κs a word z h = h
 
 pub step-promises : Promises 6 StepKinds.ps StepKinds.r Step.Learnt
     (λ κs a word z. Leaves (AllowedBy (steps (a .0 .now) (a .1 .0 .now) (terms (a .1 .1 .0 .now) (a .1 .1 .1 .0 .now)) (a .1 .1 .1 .1 .0 .now))) word (a .1 .1 .1 .1 .1 .0 .now) (z .1 .1 .1 .1 .1 .0 .now))
@@ -83,6 +93,11 @@ pub pick-says : (κs : Lfts 5) (a : Dens κs PickKinds.ps) → GoodsP κs PickKi
     → Pick.Learnt κs a word z → SaysAnswer (picks (a .0 .now) (a .1 .0 .now) (terms (a .1 .1 .0 .now) (a .1 .1 .1 .0 .now)) (a .1 .1 .1 .1 .0)) (length (a .1 .1 .1 .1 .1 .0 .now)) word
 pick-says κs a g word z h =
     says-answer (picks (a .0 .now) (a .1 .0 .now) (terms (a .1 .1 .0 .now) (a .1 .1 .1 .0 .now)) (a .1 .1 .1 .1 .0)) (g .1 .1 .1 .1 .0 .1) word (a .1 .1 .1 .1 .1 .0 .now) (z .1 .1 .1 .1 .1 .0 .now) (pick-promises κs a word z h)
+
+pub why-says : Promises 5 WhyKinds.ps WhyKinds.r Why.Learnt
+    (λ κs a word z. SaysAnswer (whys (a .0 .now) (a .1 .0 .now) (terms (a .1 .1 .0 .now) (a .1 .1 .1 .0 .now)) (a .1 .1 .1 .1 .0)) (length (a .1 .1 .1 .1 .1 .0 .now)) word)
+why-says κs a word z h =
+    says-answer (whys (a .0 .now) (a .1 .0 .now) (terms (a .1 .1 .0 .now) (a .1 .1 .1 .0 .now)) (a .1 .1 .1 .1 .0)) tt word (a .1 .1 .1 .1 .1 .0 .now) (z .1 .1 .1 .1 .1 .0 .now) (why-promises κs a word z h)
 
 pub step-says : Promises 6 StepKinds.ps StepKinds.r Step.Learnt
     (λ κs a word z. SaysAnswer (steps (a .0 .now) (a .1 .0 .now) (terms (a .1 .1 .0 .now) (a .1 .1 .1 .0 .now)) (a .1 .1 .1 .1 .0 .now)) (length (a .1 .1 .1 .1 .1 .0 .now)) word)
@@ -155,6 +170,44 @@ module _ (κs : Lfts 5) (a : Dens κs PickKinds.ps) (g : GoodsP κs PickKinds.ps
       let s = pick-says κs a g word z h in
       let r = word-13 _ (a .1 .1 .1 .1 .0) word (s .0) (g .1 .1 .1 .1 .0 .1) e (s .2) in
       refused-means-none-for-the-node (a .0 .now) (a .1 .0 .now) (terms (a .1 .1 .0 .now) (a .1 .1 .1 .0 .now)) d on (a .1 .1 .1 .1 .0) (r .0) (r .1) (rw (r .2) at (s .1))
+
+-- ---- why's byte to a judge, on a board and in room for it
+byte-left : (r word : ℕ) (before after : List ℕ) → 1 ≤ length before → Reply (inRoom (length before) (good (r ∷ []))) word before after → (word ≡ packed 0 0 1) × (at after 0 ≡ r)
+byte-left r word before after l h =
+    let k : Reply (good (r ∷ [])) word before after = rw (le-leb 1 (length before) l) at h in
+    (k .0, ap (λ (x : List ℕ). at x 0) (k .1))
+
+module _ (κs : Lfts 5) (a : Dens κs WhyKinds.ps) (g : GoodsP κs WhyKinds.ps a) (word : resT WhyKinds.r κs .Denot) (z : AtExit (endedOf 5 WhyKinds.ps WhyKinds.r) κs)
+    (h : Why.Learnt κs a word z) (d : Board) (on : board (a .0 .now) (a .1 .0 .now) (terms (a .1 .1 .0 .now) (a .1 .1 .1 .0 .now)) ≡ good d) (room : 1 ≤ length (a .1 .1 .1 .1 .1 .0 .now)) where
+  answered : (r : ℕ) × Reason d (a .1 .1 .1 .1 .0) r × (word ≡ packed 0 0 1) × (at (z .1 .1 .1 .1 .1 .0 .now) 0 ≡ r)
+  unfolding WhyAllows
+  answered =
+      let l = why-promises κs a word z h in
+      let s : WhyIf (good d) (a .1 .1 .1 .1 .0) (l .answer) = rw on at (l .allowed) in
+      let k = byte-left (s .0) word (a .1 .1 .1 .1 .1 .0 .now) (z .1 .1 .1 .1 .1 .0 .now) room (rw (s .2) at (l .reply)) in
+      (s .0, s .1, k .0, k .1)
+
+  -- the word says one byte, and it is the reason for the node
+  pub why-says-the-reason : (word ≡ packed 0 0 1) × Reason d (a .1 .1 .1 .1 .0) (at (z .1 .1 .1 .1 .1 .0 .now) 0)
+  why-says-the-reason = (answered .2, subst (Reason d (a .1 .1 .1 .1 .0)) (sym (answered .3)) (answered .1))
+
+  -- 0 exactly if the word of a pick for that node, on the same table, marking and terms, isn't 13's
+  module _ (v : ℕ) (before after : List ℕ) (p : Leaves (AllowedBy (picks (a .0 .now) (a .1 .0 .now) (terms (a .1 .1 .0 .now) (a .1 .1 .1 .0 .now)) (a .1 .1 .1 .1 .0))) v before after) where
+    why-allowed : WhyAllows (a .0 .now) (a .1 .0 .now) (terms (a .1 .1 .0 .now) (a .1 .1 .1 .0 .now)) (a .1 .1 .1 .1 .0) (good (at (z .1 .1 .1 .1 .1 .0 .now) 0 ∷ []))
+    unfolding WhyAllows
+    why-allowed = rw on (at (z .1 .1 .1 .1 .1 .0 .now) 0, why-says-the-reason .1, refl)
+
+    pub why-0-means-pick-isn't-13 : at (z .1 .1 .1 .1 .1 .0 .now) 0 ≡ 0 → v ≡ packed 13 (a .1 .1 .1 .1 .0) 0 → ⊥
+    why-0-means-pick-isn't-13 e q =
+        let s = says-answer (picks (a .0 .now) (a .1 .0 .now) (terms (a .1 .1 .0 .now) (a .1 .1 .1 .0 .now)) (a .1 .1 .1 .1 .0)) (g .1 .1 .1 .1 .0 .1) v before after p in
+        let r = word-13 _ (a .1 .1 .1 .1 .0) v (s .0) (g .1 .1 .1 .1 .0 .1) q (s .2) in
+        why-0-pick (a .0 .now) (a .1 .0 .now) (terms (a .1 .1 .0 .now) (a .1 .1 .1 .0 .now)) d on (a .1 .1 .1 .1 .0) (at (z .1 .1 .1 .1 .1 .0 .now) 0) why-allowed e (r .0) (r .1) (rw (r .2) at (s .1))
+
+    pub another-reason-means-13 : 1 ≤ at (z .1 .1 .1 .1 .1 .0 .now) 0 → v ≡ packed 13 (a .1 .1 .1 .1 .0) 0
+    another-reason-means-13 l =
+        let e = why-13 (a .0 .now) (a .1 .0 .now) (terms (a .1 .1 .0 .now) (a .1 .1 .1 .0 .now)) d on (a .1 .1 .1 .1 .0) (at (z .1 .1 .1 .1 .1 .0 .now) 0) why-allowed l (p .answer) (p .allowed) in
+        let r : Reply (refused 13 (a .1 .1 .1 .1 .0)) v before after = rw e at (p .reply) in
+        r .0
 
 -- ---- the small event: on the call of a row of the table, an export leaves the row's answer
 case-left : (r : Case) → In r cases → (call : Call) → call ≡ r .call → (word : ℕ) (before after : List ℕ) → Leaves (AllowedBy call) word before after → Left (r .answer) word before after

@@ -7,7 +7,7 @@ use lib.ListN.{length}
 use Rattle.paper.specs.Answers.{refused, good}
 use Rattle.paper.specs.Offers.{Terms}
 use Rattle.paper.specs.Choices.{board}
-use Rattle.paper.specs.Operations.{sheet, step, PickOn, Pick, packed, inRoom, Reply, Leaves}
+use Rattle.paper.specs.Operations.{sheet, step, PickOn, Pick, WhyIf, Why, packed, inRoom, Reply, Leaves}
 use Rattle.table.specs.Reading.{tableRead}
 use Rattle.rows.specs.declared.Offers.{Offers}
 use Rattle.holding.specs.declared.Held.{Held}
@@ -19,17 +19,18 @@ use Rattle.listing.specs.Listing.{Shows, sheetShown}
 use Rattle.listing.proofs.Meaning.{sheet-shown, listed-measured}
 use Rattle.stepping.specs.Stepping.{chosen}
 use Rattle.keshmirun.specs.declared.asking.Request.{Request}
-use Rattle.keshmirun.specs.declared.asking.Request.the-variants.{Sheet, Pick as PickFor, Step, Count}
+use Rattle.keshmirun.specs.declared.asking.Request.the-variants.{Sheet, Pick as PickFor, Why as WhyFor, Step, Count}
 use Rattle.keshmirun.specs.Asking.{Counted, Responds, Read}
 
 module _ (t b : List ℕ) (w : Terms) (ks : List ℕ) where
   -- ---- rows 1 to 8, and 18
   pub asked-refused : (q : Request) (n p word : ℕ) (out : List ℕ) → board t b w ≡ refused n p → word ≡ packed n p 0 → Responds q t b w ks word out out
-  unfolding sheet Pick step Counted
+  unfolding sheet Pick Why step Counted
   asked-refused Sheet n p word out e h = record { answer = refused n p; allowed = sym (rw e); reply = (h, refl) }
   asked-refused (PickFor i) n p word out e h = record { answer = refused n p; allowed = rw e refl; reply = (h, refl) }
+  asked-refused (WhyFor i) n p word out e h = record { answer = refused n p; allowed = rw e refl; reply = (h, refl) }
   asked-refused Step n p word out e h = record { answer = refused n p; allowed = sym (rw e); reply = (h, refl) }
-  asked-refused (Count i) n p word out e h = (rw e h, refl)
+  asked-refused (Count i k) n p word out e h = (rw e h, refl)
 
   pub table-refused : (q : Request) (n p word : ℕ) (out : List ℕ) → tableRead t ≡ refused n p → word ≡ packed n p 0 → Responds q t b w ks word out out
   table-refused q n p word out e h = asked-refused q n p word out (board-refused t b w n p e) h
@@ -52,13 +53,17 @@ module _ (t b : List ℕ) (w : Terms) (ks : List ℕ) where
     unfolding Pick
     pick-leaves i e h = rw e (record { answer = h .answer; allowed = rw (l .is-board) (h .allowed); reply = h .reply })
 
+    pub why-leaves : (i : ℕ) → q ≡ WhyFor i → Leaves (WhyIf (good (l .on)) i) word out after → Responds q t b w ks word out after
+    unfolding Why
+    why-leaves i e h = rw e (record { answer = h .answer; allowed = rw (l .is-board) (h .allowed); reply = h .reply })
+
     pub step-leaves : q ≡ Step → Reply (inRoom (length out) (chosen t (l .on) ks)) word out after → Responds q t b w ks word out after
     unfolding step chosen
     step-leaves e h = rw e (record { answer = chosen t (l .on) ks; allowed = sym (rw (l .is-board)); reply = h })
 
-    pub count-leaves : (i : ℕ) → q ≡ Count i → (1 ≤ word) × (word < 2 ^ (n + 22)) → Responds q t b w ks word out out
+    pub count-leaves : (i k : ℕ) → q ≡ Count i k → (1 ≤ word) × (word < 2 ^ (n + 22)) → Responds q t b w ks word out out
     unfolding Counted
-    count-leaves i e h = rw e (rw (l .is-board, ← l .seated .number) h, refl)
+    count-leaves i k e h = rw e (rw (l .is-board, ← l .seated .number) h, refl)
 
 -- ---- what the board's reader answered, taken apart
 module _ {t b : List ℕ} {o : Offers} {x : Held} {s : Seats} {r : EndsAnswer} (y : Read t b o x s r) where

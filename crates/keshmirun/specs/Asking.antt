@@ -5,15 +5,15 @@ use mathlib.Core.List.{List}
 use Rattle.paper.specs.Answers.{Answer, refused, good}
 use Rattle.paper.specs.Offers.{Terms}
 use Rattle.paper.specs.Choices.{Board, board, howMany}
-use Rattle.paper.specs.Operations.{Leaves, Only, packed, sheet, Pick, step}
+use Rattle.paper.specs.Operations.{Leaves, Only, packed, sheet, Pick, Why, step}
 use Rattle.rows.specs.declared.Offers.{Offers}
 use Rattle.ends.specs.declared.EndsAnswer.{EndsAnswer}
 use Rattle.holding.specs.declared.Held.{Held}
 use Rattle.board.specs.Reading.{Seats, BoardRead}
 use Rattle.keshmirun.specs.declared.asking.Request.{Request}
-use Rattle.keshmirun.specs.declared.asking.Request.the-variants.{Sheet, Pick as PickFor, Step, Count}
+use Rattle.keshmirun.specs.declared.asking.Request.the-variants.{Sheet, Pick as PickFor, Why as WhyFor, Step, Count}
 
--- how many states pick's search visits, within a range only: a measure, and no answer of an operation
+-- how many states a search visits, within a range only: a measure, and no answer of an operation
 unfoldable pub Counted : Answer Board → ℕ → Type 0
 Counted (refused k p) word = word ≡ packed k p 0
 Counted (good d) word = (1 ≤ word) × (word < 2 ^ (howMany d + 22))
@@ -21,8 +21,9 @@ Counted (good d) word = (1 ≤ word) × (word < 2 ^ (howMany d + 22))
 abbrev pub Responds : Request → (t b : List ℕ) → Terms → (ks : List ℕ) → ℕ → (before after : List ℕ) → Type 0
 Responds Sheet t b w ks word before after = Leaves (Only (sheet t b w)) word before after
 Responds (PickFor i) t b w ks word before after = Leaves (Pick t b w i) word before after
+Responds (WhyFor i) t b w ks word before after = Leaves (Why t b w i) word before after
 Responds Step t b w ks word before after = Leaves (Only (step t b w ks)) word before after
-Responds (Count i) t b w ks word before after = Counted (board t b w) word × (after ≡ before)
+Responds (Count i k) t b w ks word before after = Counted (board t b w) word × (after ≡ before)
 
 -- what board::read answered, under some terms
 pub record Read (t b : List ℕ) (o : Offers) (x : Held) (s : Seats) (r : EndsAnswer) : Type 0 where

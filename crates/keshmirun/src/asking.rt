@@ -1,4 +1,4 @@
-// What is asked about a board, by sheet, pick and step: the board is read once, for whichever of them asks. How far pick searches is asked here too.
+// What is asked about a board, by sheet, pick, why and step: the board is read once, for whichever of them asks. How far a search goes is asked here too.
 // The table's bytes were read as a table.
 use board::Board;
 use ends::EndsAnswer;
@@ -12,12 +12,13 @@ ghost use Rattle.holding.specs.TakenUp.{HeldFull};
 ghost use Rattle.board.specs.Reading.{seats, SeatsRoom};
 ghost use Rattle.keshmirun.specs.Asking.{Responds, Read};
 
-// The sheet, the pick for a node, the step by a choice, or how many states the pick for a node visits.
+// The sheet, the pick for a node, the reason for a node, the step by a choice, or how many states the search for a node visits, k levels past the first.
 pub enum Request {
     Sheet,
     Pick(u8),
+    Why(u8),
     Step,
-    Count(u8),
+    Count(u8, usize),
 }
 
 // What the board's reader refused, or the answer.
@@ -46,8 +47,11 @@ fn respond(
     match request {
         Request::Sheet => listing::show(board.offers, ends, order, lens, cells, n, out),
         Request::Pick(node) => picking::pick(t, table, board.offers, ends, n, held, node, out),
+        Request::Why(node) => reasons::why(t, table, board.offers, ends, n, held, node, out),
         Request::Step => stepping::step(t, table, b, choice, board.offers, ends, n, held, out),
-        Request::Count(node) => picking::states(t, table, board.offers, ends, n, held, node) as u64,
+        Request::Count(node, k) => {
+            reasons::states(t, table, board.offers, ends, n, held, node, k) as u64
+        }
     }
 }
 

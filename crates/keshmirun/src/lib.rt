@@ -17,6 +17,7 @@ ghost use Rattle.paper.specs.Operations.{
   sheet as shown,
   step as stepped,
   Pick,
+  Why,
 };
 ghost use Rattle.keshmirun.specs.Asking.{Counted};
 
@@ -92,8 +93,38 @@ pub extern "C" fn pick(
     )
 }
 
-// How many states the search of pick visits, or the word of a refusal of rows 1 to 8 or 18: a measure that tests hold down, and no part of what is exported.
-pub fn visits(table: &[u8], marking: &[u8], guards: &[u8], bounds: &[u8], node: u8) -> u64
+// The reason for which a named node has no acceptable choice, the first level at which none is left: 1 no end belongs to it; 2 its own destination rule;
+// 3 competing ends; 4 forks; 5 the other destinations; 0 it has one, or none is named (255).
+#[no_mangle]
+pub extern "C" fn why(
+    table: &[u8],
+    marking: &[u8],
+    guards: &[u8],
+    bounds: &[u8],
+    node: u8,
+    out: &mut [u8],
+) -> u64
+    ensures { λ r. ⌜ Leaves (Why (now (table .entry)) (now (marking .entry)) (terms (now (guards .entry)) (now (bounds .entry))) node) r (now (out .entry)) (now (out .exit)) ⌝ }
+{
+    let x = match checking::read(table) {
+        TableAnswer::Good(x) => x,
+        TableAnswer::Refused(number, place) => return wire::pack(number, place, 0),
+    };
+    ask(
+        table,
+        x,
+        marking,
+        guards,
+        bounds,
+        Request::Why(node),
+        b"",
+        out,
+    )
+}
+
+// How many states the search of why visits at a level, k levels past the first (from 4 on it is pick's), or the word of a refusal of rows 1 to 8 or 18: a
+// measure that tests hold down, and no part of what is exported.
+pub fn visits(table: &[u8], marking: &[u8], guards: &[u8], bounds: &[u8], node: u8, k: usize) -> u64
     ensures { λ r. ⌜ Counted (board (now (table .entry)) (now (marking .entry)) (terms (now (guards .entry)) (now (bounds .entry)))) r ⌝ }
 {
     let x = match checking::read(table) {
@@ -107,7 +138,7 @@ pub fn visits(table: &[u8], marking: &[u8], guards: &[u8], bounds: &[u8], node: 
         marking,
         guards,
         bounds,
-        Request::Count(node),
+        Request::Count(node, k),
         b"",
         &mut nothing,
     )

@@ -10,8 +10,9 @@ use lib.Dec.{leb}
 use lib.ListN.{length, drop}
 use Rattle.paper.specs.Answers.{Answer, refused, good}
 use Rattle.paper.specs.Offers.{Terms}
-use Rattle.paper.specs.Operations.{check, start, sheet, step, finish, Pick, packed, inRoom, Reply, Leaves, Only}
+use Rattle.paper.specs.Operations.{check, start, sheet, step, finish, Pick, Why, packed, inRoom, Reply, Leaves, Only}
 use Rattle.paper.proofs.Picks.{pick-unique}
+use Rattle.paper.proofs.Reasons.{why-one}
 
 -- ---- "the three answer numbers packed in one u64"
 pub packed-one : (n p l n′ p′ l′ : ℕ) → p < 2 ^ 16 → l < 2 ^ 32 → p′ < 2 ^ 16 → l′ < 2 ^ 32 →
@@ -50,6 +51,7 @@ pub data Call : Type 0 where
   starts : (t b : List ℕ) → Call
   sheets : (t b : List ℕ) (w : Terms) → Call
   picks : (t b : List ℕ) (w : Terms) (n : ℕ) → Call
+  whys : (t b : List ℕ) (w : Terms) (n : ℕ) → Call
   steps : (t b : List ℕ) (w : Terms) (ks : List ℕ) → Call
   finishes : (t b : List ℕ) (a : ℕ) (vs : List ℕ) → Call
 
@@ -59,6 +61,7 @@ AllowedBy (checks t) = Only (check t)
 AllowedBy (starts t b) = Only (start t b)
 AllowedBy (sheets t b w) = Only (sheet t b w)
 AllowedBy (picks t b w n) = Pick t b w n
+AllowedBy (whys t b w n) = Why t b w n
 AllowedBy (steps t b w ks) = Only (step t b w ks)
 AllowedBy (finishes t b a vs) = Only (finish t b a vs)
 
@@ -68,6 +71,7 @@ one-allowed (checks t) = only-one (check t)
 one-allowed (starts t b) = only-one (start t b)
 one-allowed (sheets t b w) = only-one (sheet t b w)
 one-allowed (picks t b w n) = pick-unique t b w n
+one-allowed (whys t b w n) = why-one t b w n
 one-allowed (steps t b w ks) = only-one (step t b w ks)
 one-allowed (finishes t b a vs) = only-one (finish t b a vs)
 
@@ -89,6 +93,9 @@ sheet-unique t b w = same-answer (sheets t b w)
 
 pub pick-call-unique : (t b : List ℕ) (w : Terms) (n : ℕ) → OneCall (Pick t b w n)
 pick-call-unique t b w n = same-answer (picks t b w n)
+
+pub why-unique : (t b : List ℕ) (w : Terms) (n : ℕ) → OneCall (Why t b w n)
+why-unique t b w n = same-answer (whys t b w n)
 
 pub step-unique : (t b : List ℕ) (w : Terms) (ks : List ℕ) → OneCall (Only (step t b w ks))
 step-unique t b w ks = same-answer (steps t b w ks)

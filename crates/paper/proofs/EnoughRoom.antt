@@ -1,4 +1,4 @@
--- A marking or a sheet always fits in 4,096 bytes, a choice in 20: a call that lends that much is never refused 17, and two such calls on the same bytes return
+-- A marking or a sheet always fits in 4,096 bytes, a choice in 20, a reason in 1: a call that lends that much is never refused 17, and two such calls on the same bytes return
 -- the same word and show the same bytes. Of step it is assumed that what it reads as the marking are bytes, each below 256; of the others nothing.
 use mathlib.Core.Path.{_≡_, sym, subst}
 use Prim.Native.Nat.{ℕ, _≤_}
@@ -12,7 +12,7 @@ use Rattle.paper.proofs.Bytes.{Bytes}
 use Rattle.paper.proofs.OneMarking.{encode-fits}
 use Rattle.paper.proofs.Boards.{board-good}
 use Rattle.paper.proofs.Written.{step-meant}
-use Rattle.paper.proofs.Calls.{Call, checks, starts, sheets, picks, steps, finishes, AllowedBy, one-allowed}
+use Rattle.paper.proofs.Calls.{Call, checks, starts, sheets, picks, whys, steps, finishes, AllowedBy, one-allowed}
 use Rattle.paper.proofs.SameAnswer.{replyOf, wordOf, leaves-left, same-bytes-same-answer}
 use Rattle.paper.proofs.OneWord.{replies-most, shown, same-shown}
 
@@ -21,6 +21,7 @@ roomNeeded (checks t) = 0
 roomNeeded (starts t b) = 4096
 roomNeeded (sheets t b w) = 4096
 roomNeeded (picks t b w n) = 20
+roomNeeded (whys t b w n) = 1
 roomNeeded (steps t b w ks) = 4096
 roomNeeded (finishes t b a vs) = 4096
 
@@ -29,6 +30,7 @@ BytesLent (checks t) = Unit {0}
 BytesLent (starts t b) = Unit {0}
 BytesLent (sheets t b w) = Unit {0}
 BytesLent (picks t b w n) = Unit {0}
+BytesLent (whys t b w n) = Unit {0}
 BytesLent (steps t b w ks) = Bytes b
 BytesLent (finishes t b a vs) = Unit {0}
 
@@ -45,6 +47,7 @@ reply-fits (checks t) u a h = replies-most (checks t) a h
 reply-fits (starts t b) u a h = replies-most (starts t b) a h
 reply-fits (sheets t b w) u a h = omega (arith, replies-most (sheets t b w) a h)
 reply-fits (picks t b w n) u a h = replies-most (picks t b w n) a h
+reply-fits (whys t b w n) u a h = replies-most (whys t b w n) a h
 reply-fits (steps t b w ks) u a h = step-most t b w ks u a h
 reply-fits (finishes t b x vs) u a h = replies-most (finishes t b x vs) a h
 

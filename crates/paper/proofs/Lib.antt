@@ -30,6 +30,7 @@ pub mod Digits
 pub mod Bits
 pub mod Choices
 pub mod Search
+pub mod Levels
 pub mod BoundsLists
 pub mod BeforeBounds
 pub mod OneRound
@@ -42,6 +43,7 @@ pub mod Inputs
 pub mod Decimals
 pub mod Actions
 pub mod Named
+pub mod Reasons
 pub mod EmptyChoice
 pub mod Calls
 pub mod SameAnswer
@@ -50,3 +52,4 @@ pub mod EnoughRoom
 pub mod Computed
 pub mod SmallEvent
 pub mod RoundEvent
+pub mod WhyEvent

@@ -17,7 +17,7 @@ use Rattle.paper.specs.Table.{nodes, edges, kind, upper, source, out, ou
 use Rattle.paper.specs.Marking.{Marking, blank, encode, marking, hasTokens, endedOf}
 use Rattle.paper.specs.Offers.{value, guardsFine, boundsFine, Terms, goesOver, offers, sizesFine, targetOf}
 use Rattle.paper.specs.Choices.{Board, boardOf, board, howMany, end, taken, takenEnds, arrivals, rule1, rule2, rule3, rules, spent, spend, gain, close, next}
-use Rattle.paper.specs.Operations.{check, valueLists, given, roomIn, startOf, start, sheet, PickIf, Pick, rising, choiceOf, stepOf, step, idled, finishOf, finish, packed, inRoom, Reply, Leaves}
+use Rattle.paper.specs.Operations.{check, valueLists, given, roomIn, startOf, start, sheet, PickIf, Pick, WhyIf, Why, rising, choiceOf, stepOf, step, idled, finishOf, finish, packed, inRoom, Reply, Leaves}
 use Rattle.paper.proofs.Bools.{and-true, true-or-false, either-way}
 use Rattle.paper.proofs.Members.{In, here, later, in-below, in-keep}
 use Rattle.paper.proofs.Lists.{all-below, lowest-is}
@@ -27,7 +27,7 @@ use Rattle.paper.proofs.OneMarking.{encode-length, read-room}
 use Rattle.paper.proofs.Stepped.{shorter, single, single-few}
 use Rattle.paper.proofs.Boards.{board-good}
 use Rattle.paper.proofs.Sizes.{few-ends, choice-most, sheet-most}
-use Rattle.paper.proofs.Calls.{Call, checks, starts, sheets, picks, steps, finishes, AllowedBy}
+use Rattle.paper.proofs.Calls.{Call, checks, starts, sheets, picks, whys, steps, finishes, AllowedBy}
 use Rattle.paper.proofs.SameAnswer.{numberOf, placeOf, replyOf, wordOf, OneBracket, same-bytes-same-answer}
 
 -- ---- ladders: every refusal has the number of a row and a small place, and of what passes P holds
@@ -224,7 +224,7 @@ step-rows t b w ks =
     (λ u q x. rows-then Passed (Most 36 t) (judgedBy (rules d) (choiceOf ks)) _ (judged-rows t b w d e (choiceOf ks)) (λ u q x. next-most t b w d e (choiceOf ks))))
     (λ m q r. written-36 t m (board-good t b w d e .table-fine) r))
 
--- ---- check, sheet and pick
+-- ---- check, sheet, pick and why
 check-rows : (t : List ℕ) → Rows (UpTo 0) (check t)
 unfolding check
 check-rows t = rows-then Passed (UpTo 0) (tableFine t limits) _ (table-rows t) (λ u e x. omega arith)
@@ -252,6 +252,14 @@ pick-most t b w n = by (board t b w) refl
     by (good d) e (refused k p) h = omega arith
     by (good d) e (good ks) h = omega (arith, ap length (h .2), choice-most t b w d e (h .0))
 
+why-rows : (t b : List ℕ) (w : Terms) (n : ℕ) (a : Answer (List ℕ)) → Why t b w n a → Rows (UpTo 1) a
+unfolding Why
+why-rows t b w n = by (board t b w) (board-rows t b w)
+  where
+    by : (r : Answer Board) → Rows Passed r → (a : Answer (List ℕ)) → WhyIf r n a → Rows (UpTo 1) a
+    by (refused k p) s a h = rw h s
+    by (good d) s a h = rw (h .2) (omega arith)
+
 -- ---- how long a reply is, of any call
 -- a step's is 4,096 at most where what is lent are bytes: `EnoughRoom`
 abbrev pub mostReply : Call → ℕ
@@ -259,6 +267,7 @@ mostReply (checks t) = 0
 mostReply (starts t b) = 4096
 mostReply (sheets t b w) = 2864
 mostReply (picks t b w n) = 20
+mostReply (whys t b w n) = 1
 mostReply (steps t b w ks) = 8192
 mostReply (finishes t b a vs) = 4096
 
@@ -271,6 +280,7 @@ replies-most (checks t) a h = rw h (rows-reply 0 (check t) (check-rows t))
 replies-most (starts t b) a h = rw h (rows-reply 4096 (start t b) (start-rows t b))
 replies-most (sheets t b w) a h = rw h (rows-reply 2864 (sheet t b w) (sheet-rows t b w))
 replies-most (picks t b w n) a h = pick-most t b w n a h
+replies-most (whys t b w n) a h = rows-reply 1 a (why-rows t b w n a h)
 replies-most (steps t b w ks) a h = rw h (rows-reply 8192 (step t b w ks) (step-rows t b w ks))
 replies-most (finishes t b x vs) a h = rw h (rows-reply 4096 (finish t b x vs) (finish-rows t b x vs))
 
@@ -279,6 +289,7 @@ most-short (checks t) = omega arith
 most-short (starts t b) = omega arith
 most-short (sheets t b w) = omega arith
 most-short (picks t b w n) = omega arith
+most-short (whys t b w n) = omega arith
 most-short (steps t b w ks) = omega arith
 most-short (finishes t b a vs) = omega arith
 
@@ -293,6 +304,7 @@ ByteNode (checks t) = Unit {0}
 ByteNode (starts t b) = Unit {0}
 ByteNode (sheets t b w) = Unit {0}
 ByteNode (picks t b w n) = n < 256
+ByteNode (whys t b w n) = Unit {0}
 ByteNode (steps t b w ks) = Unit {0}
 ByteNode (finishes t b a vs) = Unit {0}
 
@@ -309,6 +321,7 @@ small (checks t) l a h = rw h (rows-small (UpTo 0) (check t) (check-rows t))
 small (starts t b) l a h = rw h (rows-small (UpTo 4096) (start t b) (start-rows t b))
 small (sheets t b w) l a h = rw h (rows-small (UpTo 2864) (sheet t b w) (sheet-rows t b w))
 small (picks t b w n) l a h = rows-small Passed a (pick-rows t b w n l a h)
+small (whys t b w n) l a h = rows-small (UpTo 1) a (why-rows t b w n a h)
 small (steps t b w ks) l a h = rw h (rows-small (UpTo 8192) (step t b w ks) (step-rows t b w ks))
 small (finishes t b x vs) l a h = rw h (rows-small (UpTo 4096) (finish t b x vs) (finish-rows t b x vs))
 

@@ -10,8 +10,8 @@ use lib.ListN.{length, take, drop}
 use lib.Seq.{take-append-seam}
 use Rattle.paper.specs.Answers.{Answer, refused, good}
 use Rattle.paper.specs.Offers.{Terms}
-use Rattle.paper.specs.Operations.{check, start, sheet, Pick, step, finish, packed, inRoom, Reply, Leaves, Only}
-use Rattle.paper.proofs.Calls.{OneAllowed, Call, checks, starts, sheets, picks, steps, finishes, AllowedBy, one-allowed}
+use Rattle.paper.specs.Operations.{check, start, sheet, Pick, Why, step, finish, packed, inRoom, Reply, Leaves, Only}
+use Rattle.paper.proofs.Calls.{OneAllowed, Call, checks, starts, sheets, picks, whys, steps, finishes, AllowedBy, one-allowed}
 
 -- ---- an answer's three numbers, its word and its reply (a refusal writes nothing)
 abbrev pub numberOf : Answer (List ℕ) → ℕ
@@ -104,6 +104,9 @@ sheet-same-answer t b w = same-bytes-same-answer (sheets t b w)
 
 pub pick-same-answer : (t b : List ℕ) (w : Terms) (n : ℕ) → SameAnswer (Pick t b w n)
 pick-same-answer t b w n = same-bytes-same-answer (picks t b w n)
+
+pub why-same-answer : (t b : List ℕ) (w : Terms) (n : ℕ) → SameAnswer (Why t b w n)
+why-same-answer t b w n = same-bytes-same-answer (whys t b w n)
 
 pub step-same-answer : (t b : List ℕ) (w : Terms) (ks : List ℕ) → SameAnswer (Only (step t b w ks))
 step-same-answer t b w ks = same-bytes-same-answer (steps t b w ks)

@@ -1,19 +1,19 @@
--- "Operations and their numbers": six ladders of the table's rows, pick as a relation, and what a call leaves. Assumes nothing.
-use Prim.Native.Nat.{ℕ, suc, _+_, _*_, _^_, _<_}
+-- "Operations and their numbers": six ladders of the table's rows, pick as a relation, wish 4's why as another, and what a call leaves. Assumes nothing.
+use Prim.Native.Nat.{ℕ, zero, suc, _+_, _*_, _^_, _≤_, _<_}
 use mathlib.Core.Path.{_≡_}
 use mathlib.Core.Bool.{Bool, true, false, not, _&&_, _||_, cond}
 use mathlib.Core.List.{List, [], _∷_, _++_}
 use mathlib.Core.Option.{Option, none, some}
 use lib.Dec.{leb, ltb, eqb}
-use lib.ListN.{length, drop}
-use Rattle.paper.specs.Lists.{below, all, any, keep, gather}
-use Rattle.paper.specs.Answers.{Answer, refused, good, _>>=_, need, known, judgedBy}
+use lib.ListN.{length, take, drop}
+use Rattle.paper.specs.Lists.{below, all, any, each, keep, gather}
+use Rattle.paper.specs.Answers.{Answer, refused, good, _>>=_, need, known, judgedBy, isGood}
 use Rattle.paper.specs.Limits.{limits}
 use Rattle.paper.specs.Bytes.{sized, four, valuesRead, eachRead, whole}
-use Rattle.paper.specs.Table.{nodes, edges, kind, owner, upper, source, outputs, isInitial, isAction, isInput, isIncoming, tableFine}
+use Rattle.paper.specs.Table.{nodes, edges, kind, owner, upper, source, outputs, isInitial, isAction, isPin, isInput, isIncoming, tableFine}
 use Rattle.paper.specs.Marking.{Marking, blank, encode, marking, hasTokens}
 use Rattle.paper.specs.Offers.{Offer, Terms, lastEdge, value, paths, sortedPaths, belongs}
-use Rattle.paper.specs.Choices.{Board, board, howMany, taken, takenEnds, rules, acceptable, next, FirstOf}
+use Rattle.paper.specs.Choices.{Board, board, howMany, taken, takenEnds, agrees, rules, acceptable, next, FirstOf}
 
 -- ---- "check: table. Writes nothing."
 unfoldable pub check : List ℕ → Answer (List ℕ)
@@ -100,6 +100,46 @@ PickIf (good d) n a = PickOn d n a
 
 unfoldable pub Pick : List ℕ → List ℕ → Terms → ℕ → Answer (List ℕ) → Type 0
 Pick t b w n a = PickIf (board t b w) n a
+
+-- ---- wish 4, "Why can't we pair?": as pick. "It .. writes that byte", the reason for a node.
+-- "For a pin, its own rule is its action's."
+unfoldable pub ownOf : List ℕ → ℕ → ℕ
+ownOf t n = cond (isPin (kind t n)) (owner t n) n
+
+-- what each level asks of a choice: that it "takes an end of" the node, that it "satisfies its own destination rule", and then rule by rule that it "is free
+-- of competing ends", "passes all forks whole", "satisfies all destinations"
+unfoldable pub levels : Board → ℕ → List (ℕ → Bool)
+levels d n =
+    (λ c. any (belongs (d .table) n) (takenEnds d c)) ∷ (λ c. agrees d c (ownOf (d .table) n)) ∷ each (λ r c. isGood (judgedBy (r ∷ []) c)) (rules d)
+
+-- a choice is left at level k if it has what the first k levels ask; one of all sets of m ends is, or none
+module _ (asked : List (ℕ → Bool)) where
+  unfoldable pub left : ℕ → ℕ → Bool
+  left k c = all (λ test. test c) (take k asked)
+
+  abbrev pub SomeLeft : ℕ → ℕ → Type 0
+  SomeLeft m k = (c : ℕ) × (c < 2 ^ m) × (left k c ≡ true)
+
+  abbrev pub NoneLeft : ℕ → ℕ → Type 0
+  NoneLeft m k = (c : ℕ) → c < 2 ^ m → left k c ≡ false
+
+  -- "the first level at which no choice is left, over all sets of ends", or 0 if one is left at the last
+  abbrev pub FirstEmpty : ℕ → ℕ → Type 0
+  FirstEmpty m zero = SomeLeft m (length asked)
+  FirstEmpty m (suc k) = NoneLeft m (suc k) × ((j : ℕ) → j ≤ k → SomeLeft m j)
+
+-- "255 names none and gets 0"
+pub record Reason (d : Board) (n r : ℕ) : Type 0 where
+  pub none-named : named n ≡ false → r ≡ 0
+  pub first-empty : named n ≡ true → FirstEmpty (levels d n) (howMany d) r
+
+-- "Refusals: those of sheet."
+abbrev pub WhyIf : Answer Board → ℕ → Answer (List ℕ) → Type 0
+WhyIf (refused k p) n a = a ≡ refused k p
+WhyIf (good d) n a = (r : ℕ) × Reason d n r × (a ≡ good (r ∷ []))
+
+unfoldable pub Why : List ℕ → List ℕ → Terms → ℕ → Answer (List ℕ) → Type 0
+Why t b w n a = WhyIf (board t b w) n a
 
 -- ---- "step: as sheet, with a choice. Writes the marking." Row 9: "choice not strictly rising, or no such end"
 abbrev pub rising : List ℕ → Bool

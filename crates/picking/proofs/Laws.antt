@@ -44,7 +44,7 @@ answers-holds net k room want n (Choice c) a =
     first-same (passes n (netOf (take (20 + 4 * k) net) want)) (λ c. holds net k n c && leb (want .least) (held n c (want .ends))) n (λ x g. passes-holds net k room want n x) c a
 answers-holds net k room want n Nothing a = λ x g. sym (passes-holds net k room want n x) ∙ a x g
 
-answered-same : (p q : ℕ → Bool) (m : ℕ) → ((c : ℕ) → p c ≡ q c) → (f : Found) → Answered p m f → Answered q m f
+pub answered-same : (p q : ℕ → Bool) (m : ℕ) → ((c : ℕ) → p c ≡ q c) → (f : Found) → Answered p m f → Answered q m f
 unfolding Answered
 answered-same p q m h (Choice c) a = first-same p q m (λ x g. h x) c a
 answered-same p q m h Nothing a = λ x g. sym (h x) ∙ a x g

@@ -26,9 +26,9 @@ use rows::Offers;
 use table::Table;
 
 // What the search is asked: a net of so many rules, and the ends that are wanted.
-struct Question {
-    rules: usize,
-    want: Wanted,
+pub struct Question {
+    pub rules: usize,
+    pub want: Wanted,
 }
 
 // The net of a board, in a lent slice, and how many rules it has: the columns of the offers and of the marking are lent for it.
@@ -99,7 +99,7 @@ fn prepare(
 }
 
 // The first set of n ends that obeys the rules of a net and holds what is wanted.
-fn first(net: &[u32], asked: Question, n: usize) -> Found
+pub fn first(net: &[u32], asked: Question, n: usize) -> Found
     requires { ⌜ (n ≤ 20) × (asked .rules ≤ 105) × (440 ≤ length (now net)) ⌝ }
     ensures { λ r. ⌜ Answered (λ c. holds (now (net .entry)) (asked .rules) n c && leb (asked .want .least) (heldOf n c (asked .want .ends))) n r ⌝ }
 {
@@ -107,7 +107,7 @@ fn first(net: &[u32], asked: Question, n: usize) -> Found
 }
 
 // The first acceptable choice that has an end of the node, if one is named.
-fn choose(
+pub fn choose(
     t: &[u8],
     table: Table,
     offers: Offers,

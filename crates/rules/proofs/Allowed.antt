@@ -201,11 +201,11 @@ module _ (t edge target home runs stock : List ℕ) (n c : ℕ) where
 
 -- ---- all of them, rule by rule
 -- of the choice c, the tests say what the rules do
-record Alike (ps rules : List (ℕ → Bool)) (c : ℕ) : Type 0 where
-  same : allPass ps c ≡ allPass rules c
+pub record Alike (ps rules : List (ℕ → Bool)) (c : ℕ) : Type 0 where
+  pub same : allPass ps c ≡ allPass rules c
 
 -- tests that say what one rule does, before tests that say what the others do
-alike-then : {ps qs rules : List (ℕ → Bool)} {r : ℕ → Bool} {c : ℕ} → Alike ps (r ∷ []) c → Alike qs rules c → Alike (ps ++ qs) (r ∷ rules) c
+pub alike-then : {ps qs rules : List (ℕ → Bool)} {r : ℕ → Bool} {c : ℕ} → Alike ps (r ∷ []) c → Alike qs rules c → Alike (ps ++ qs) (r ∷ rules) c
 alike-then {ps} {qs} {rules} {r} {c} e f = record {
   same = all-append (λ p. p c) ps qs ∙ ap₂ (λ (x y : Bool). x && y) (e .same ∙ mathlib.Core.Bool.and-true (r c)) (f .same);
 }
@@ -217,14 +217,14 @@ module _ (t node parents makers foes ends edge target home runs stock : List ℕ
   abbrev forks : ℕ → Bool
   forks = onEach (forkKept t node parents makers ends rows n) (below rows)
 
-  clashes-say : Alike (clashes ∷ []) (noRivals foes makers ends n ∷ []) c
+  pub clashes-say : Alike (clashes ∷ []) (noRivals foes makers ends n ∷ []) c
   unfolding clashKept noRivals
   clashes-say = record { same = refl }
 
-  forks-say : Alike (forks ∷ []) (forksWhole t node parents makers ends rows n ∷ []) c
+  pub forks-say : Alike (forks ∷ []) (forksWhole t node parents makers ends rows n ∷ []) c
   forks-say = record { same = ap (λ (b : Bool). b && true) (iff _ _ (fork-there t node parents makers ends rows n c) (fork-back t node parents makers ends rows n c)) }
 
-  destinations-alike : Alike (destinationTests t edge target home runs stock n) (destinationsFit t edge target home runs stock n ∷ []) c
+  pub destinations-alike : Alike (destinationTests t edge target home runs stock n) (destinationsFit t edge target home runs stock n ∷ []) c
   destinations-alike = record { same = destinations-say t edge target home runs stock n c g room ∙ sym (mathlib.Core.Bool.and-true (destinationsFit t edge target home runs stock n c)) }
 
   rules-say : allPass ((clashes ∷ []) ++ ((forks ∷ []) ++ destinationTests t edge target home runs stock n)) c

@@ -3,17 +3,18 @@ use mathlib.Core.Path.{_≡_, refl, sym, ap, ap₂, _∙_}
 use mathlib.Core.Logic.{⊎-elim}
 use mathlib.Core.Bool.{Bool, true, false, _&&_, and-true, and-comm, and-assoc}
 use mathlib.Core.List.{List, [], _∷_, _++_}
-use Prim.Native.Nat.{ℕ, zero, suc, _+_, _-_, _*_, _≤_, _<_}
+use Prim.Native.Nat.{ℕ, zero, suc, _+_, _-_, _*_, _^_, _≤_, _<_}
 use native.Mathlib.Nat.{sub-zero, le-trans}
 use native.Mathlib.Omega.{arith}
 use lib.Bits.{bitAnd}
 use lib.Dec.{leb}
 use lib.ListN.{length, set, take, length-set}
 use lib.Seq.{getD-set-same, getD-set-other, getD-take, length-take-le}
-use borrow.Author.Tests.{le-leb, leb-true}
+use borrow.Author.Tests.{le-leb, leb-true, leb-false}
 use Rattle.paper.specs.Lists.{at, has, from, below, all, count, each}
 use Rattle.paper.proofs.Bools.{and-never, and-true as and-facts, and-both, true-or-false}
-use Rattle.paper.proofs.Lists.{below-more}
+use Rattle.paper.proofs.Lists.{below-all, below-more}
+use Rattle.table.specs.Reading.{Blank}
 use Rattle.paper.proofs.Counts.{all-append, any-below-none, count-below}
 use Rattle.paper.proofs.Digits.{has-zero}
 use Rattle.paper.proofs.Members.{any-in, in-below}
@@ -23,6 +24,7 @@ use Rattle.pruning.specs.declared.Wanted.{Wanted}
 use Rattle.pruning.proofs.Rules.{obeys-apart, obeys-met}
 use Rattle.pruning.proofs.Sets.{has-and, meets-held, meets-at, held-most, count-part}
 use Rattle.seating.proofs.Numbers.{all-below-alike}
+use Rattle.seating.proofs.Rules.{if-so}
 use Rattle.rules.specs.Rules.{holds, allPass, onEach, Starts, Added, AddedUpto, AddedFrom}
 
 pub all-more : (p : ℕ → Bool) (k : ℕ) → all p (below (k + 1)) ≡ all p (below k) && p k
@@ -100,6 +102,17 @@ from-all {j = j} q e x = rw (sub-zero j) at (rw e at x)
 pub meets-zero : (m c : ℕ) → meets m c 0 ≡ false
 unfolding meets
 meets-zero m c = any-below-none (inBoth c 0) m (λ k l. rw (has-zero k) (and-never (has c k)))
+
+-- no rival is met in a blank net: without rules it binds nothing
+held-zero : (m c : ℕ) → held m c 0 ≡ 0
+held-zero m c = let e = leb-false 1 (held m c 0) (sym (meets-held m c 0) ∙ meets-zero m c) in omega arith
+
+pub blank-starts : (net : List ℕ) (m : ℕ) → Blank net → Starts net m []
+unfolding holds obeys
+blank-starts net m b = record {
+  says = λ c. ap (λ (x : Bool). x && true)
+      (below-all (λ j. obeys m (rivalsAt net j) c) 20 (λ j l. rw (b j, held-zero m c) (if-so (meets m c (2 ^ j)) true (λ h. refl))));
+}
 
 -- what meets a set meets one that it lies in
 meets-inside : (m c a b : ℕ) → bitAnd a b ≡ a → meets m c a ≡ true → meets m c b ≡ true

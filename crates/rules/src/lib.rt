@@ -128,7 +128,7 @@ fn leads(here: u32, k: usize) -> bool
 // ---- rule 1
 
 // Each end is taken with none of its rivals. The cells past the last end bind no set of n ends, and are left as they are.
-fn fill_rivals(net: &mut [u32], foes: &[u64], makers: &[u64], ends: &[u8], n: usize)
+pub fn fill_rivals(net: &mut [u32], foes: &[u64], makers: &[u64], ends: &[u8], n: usize)
     requires { ⌜ (440 ≤ length (now net)) × Rowed (now ends) n (length (now makers)) × Rowed (now ends) n (length (now foes)) × (n ≤ 20) ⌝ }
     ensures { λ _. ⌜ Starts (now (net .exit)) n (onEach (clashKept (now (foes .entry)) (now (makers .entry)) (now (ends .entry)) n) (below n) ∷ []) ⌝ }
 {
@@ -175,7 +175,7 @@ fn fork_rule(
 }
 
 // From the last row to the first, since later rows leave inner forks: what those need is then known to the outer ones.
-fn add_forks(
+pub fn add_forks(
     net: &mut [u32],
     count: usize,
     t: &[u8],
@@ -460,7 +460,7 @@ fn add_masked(
 }
 
 // Destinations fit: what each edge and each node has of ends is found once, for all rows.
-fn add_destinations(
+pub fn add_destinations(
     net: &mut [u32],
     count: usize,
     t: &[u8],

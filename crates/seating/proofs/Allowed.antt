@@ -1,7 +1,7 @@
 -- A choice is acceptable, and is one that pick wants, exactly if the rows and columns say so. Assumes nothing.
 use mathlib.Core.Path.{_≡_, refl, ap, ap₂, _∙_}
 use Prim.Native.Nat.{ℕ}
-use mathlib.Core.Bool.{Bool, true, false, not, _&&_, _||_, cond, Bool·not-not}
+use mathlib.Core.Bool.{Bool, true, false, not, _&&_, _||_, cond, and-true, Bool·not-not}
 use mathlib.Core.List.{List, [], _∷_}
 use mathlib.Core.Option.{Option, none, some}
 use Rattle.paper.specs.Lists.{has, below, all, find}
@@ -41,7 +41,7 @@ judged-clear (r ∷ rs) a = by (r .1 a) (judged-clear rs a)
 
 module _ (t : List ℕ) (d : Board) (o : Offers) (links : List ℕ) (ts : List Offer) (ends : List ℕ) (n c : ℕ) (s : Seated t d (rowsOf o links) ts ends n)
     (edge target home : List ℕ) (k : Columns t (o .last) ends edge target home n) (runs stock : List ℕ) (m : Told t (d .current) runs stock) where
-  -- each rule finds no place exactly if the rows say that it is kept
+  -- each rule finds no place exactly if the rows say that it is kept, and is then passed
   clear1 : clear (rule1 d c) ≡ noRivals (o .foes) (o .makers) ends n c
   unfolding noRivals apart
   clear1 = ap clear (rule1-rows t d o links ts ends n c s) ∙ find-clear (λ j. has c j && rivalled (o .foes) (o .makers) ends n c j) (below n)
@@ -58,6 +58,12 @@ module _ (t : List ℕ) (d : Board) (o : Offers) (links : List ℕ) (ts : List O
       ap clear (rule3-rows t d o links ts ends n c s edge target home k runs stock m)
       ∙ find-clear (λ i. not (fits t edge target home runs stock n c i)) (below (nodes t))
       ∙ all-below-alike (λ i. not (not (fits t edge target home runs stock n c i))) (fits t edge target home runs stock n c) (nodes t) (λ i l. Bool·not-not _)
+
+  pub passes1 : isGood (judgedBy ((10, rule1 d) ∷ []) c) ≡ noRivals (o .foes) (o .makers) ends n c
+  passes1 = judged-clear ((10, rule1 d) ∷ []) c ∙ and-true (clear (rule1 d c)) ∙ clear1
+
+  pub passes2 : isGood (judgedBy ((11, rule2 d) ∷ []) c) ≡ forksWhole t (o .node) (o .parents) (o .makers) ends (o .count) n c
+  passes2 = judged-clear ((11, rule2 d) ∷ []) c ∙ and-true (clear (rule2 d c)) ∙ clear2
 
   pub acceptable-rows : acceptable d c ≡ allowed t (o .node) (o .parents) (o .makers) (o .foes) ends edge target home runs stock (o .count) n c
   unfolding acceptable allowed

@@ -191,7 +191,7 @@ module _ (t : List ℕ) (d : Board) (o : Offers) (links : List ℕ) (ts : List O
           (all-alike (λ p. within (lower (d .table) p) (upper (d .table) p) (length (arrivals d c p))) (λ p. within (lower (d .table) p) (upper (d .table) p) (seats target n c p)) (inputs (d .table) i)
           (λ p h. ap (within (lower (d .table) p) (upper (d .table) p)) (arrivals-rows p)))
 
-      agrees-rows : (i : ℕ) → i < nodes t → agrees d c i ≡ fits (d .table) edge target home runs stock n c i
+      pub agrees-rows : (i : ℕ) → i < nodes t → agrees d c i ≡ fits (d .table) edge target home runs stock n c i
       unfolding agrees fits
       agrees-rows i l =
           ap₂ (λ (x y : Bool). x && y)

@@ -1,8 +1,9 @@
 // Reads calls as bytes from standard input and writes each answer as a line, so that outside vectors can be held to the library.
 //
-// A call is its operation (0 check, 1 start, 2 sheet, 3 pick, 4 step, 5 finish, 6 visits), the room to lend (2 bytes), a node or action (1 byte), then five
+// A call is its operation (0 check, 1 start, 2 sheet, 3 pick, 4 step, 5 finish, 6 visits, 7 why, 8 levels), the room to lend (2 bytes), a node or action (1 byte), then five
 // slices, each a 2-byte length and its bytes: table, marking, guards or values, bounds, choice. What an operation doesn't take is empty. A line is the refusal, the place and the reply in hex, `-` where it is empty.
-// visits takes what pick does, and its line is `visits` and how many states the search visits: a search that gets worse is seen here.
+// visits takes what pick does, and its line is `visits` and how many states the search visits: a search that gets worse is seen here. levels does too, and its
+// line is `levels` and how many states the search of why visits at each of the four levels before the last.
 ghost use Prim.Native.Nat.{_≤_, _<_};
 ghost use lib.ListN.{length};
 use libc::STDIN_FILENO;
@@ -22,6 +23,13 @@ const STEP: u8 = 4;
 const FINISH: u8 = 5;
 
 const VISITS: u8 = 6;
+
+const WHY: u8 = 7;
+
+const LEVELS: u8 = 8;
+
+// The level at which why asks what pick does, past the first.
+const LAST: usize = 4;
 
 fn number(n: u64) {
     io::print_decimal(STDOUT_FILENO, n);
@@ -68,6 +76,25 @@ fn line(word: u64, out: &[u8]) {
 fn visited(states: u64) {
     io::write_all(STDOUT_FILENO, b"visits ");
     io::print_decimal(STDOUT_FILENO, states);
+    io::write_all(STDOUT_FILENO, b"\n");
+}
+
+// The number of states at a level, k levels past the first.
+fn level(table: &[u8], marking: &[u8], guards: &[u8], bounds: &[u8], node: u8, k: usize) {
+    io::write_all(STDOUT_FILENO, b" ");
+    io::print_decimal(
+        STDOUT_FILENO,
+        keshmirun::visits(table, marking, guards, bounds, node, k),
+    );
+}
+
+// The number of states at each level before the last as a line.
+fn climbed(table: &[u8], marking: &[u8], guards: &[u8], bounds: &[u8], node: u8) {
+    io::write_all(STDOUT_FILENO, b"levels");
+    level(table, marking, guards, bounds, node, 0);
+    level(table, marking, guards, bounds, node, 1);
+    level(table, marking, guards, bounds, node, 2);
+    level(table, marking, guards, bounds, node, 3);
     io::write_all(STDOUT_FILENO, b"\n");
 }
 
@@ -122,7 +149,18 @@ fn answer(
         return;
     }
     if operation == VISITS {
-        visited(keshmirun::visits(table, marking, values, bounds, node));
+        visited(keshmirun::visits(table, marking, values, bounds, node, LAST));
+        return;
+    }
+    if operation == WHY {
+        line(
+            keshmirun::why(table, marking, values, bounds, node, out),
+            out,
+        );
+        return;
+    }
+    if operation == LEVELS {
+        climbed(table, marking, values, bounds, node);
         return;
     }
     line(keshmirun::check(table), out);

@@ -1,5 +1,6 @@
 //! The paper's heading "Acceptable choices": the three rules, the order of
-//! choices and the step.
+//! choices and the step. Beside them the levels of the customers' wish 4, "Why
+//! can't we pair?", which ask the same rules of every choice, one after another.
 
 use crate::budget::{Budget, Stop};
 use crate::bytes::Value;
@@ -10,6 +11,9 @@ use crate::table::{
     is_object_node, is_pin, Table, ACTION, ACTIVITY_FINAL, CENTRAL_BUFFER, FORK, INPUT_PIN,
     OUTGOING_PARAMETER,
 };
+
+/// The last level of wish 4. A choice that passes it is acceptable.
+const LAST_LEVEL: u8 = 5;
 
 /// The choices among the ends of one marking. A choice is a list of rising end
 /// numbers.
@@ -96,15 +100,21 @@ impl Choices<'_> {
     }
 
     /// "each destination agrees". Place: "lowest destination (the action, for its
-    /// pins)". "Finals take any number."
+    /// pins)".
     fn rule_3(&self, choice: &[usize]) -> Result<(), Refusal> {
         require_each(RULE_3, self.table.node_numbers(), |node| {
-            match self.table.kind(node) {
-                ACTION => self.action_agrees(node, choice),
-                CENTRAL_BUFFER | OUTGOING_PARAMETER => self.has_room(node, choice),
-                _ => true,
-            }
+            self.destination_agrees(node, choice)
         })
+    }
+
+    /// Whether this destination agrees. "Finals take any number." Pins have no rule
+    /// apart from their action's, and all other nodes are no destinations.
+    fn destination_agrees(&self, node: usize, choice: &[usize]) -> bool {
+        match self.table.kind(node) {
+            ACTION => self.action_agrees(node, choice),
+            CENTRAL_BUFFER | OUTGOING_PARAMETER => self.has_room(node, choice),
+            _ => true,
+        }
     }
 
     /// "An action with any taken end is idle, has exactly one taken end on each
@@ -212,6 +222,75 @@ impl Choices<'_> {
         match named {
             Some(node) => self.has_end_of(choice, node),
             None => true,
+        }
+    }
+
+    /// Wish 4: "The reason is proved to be the first level at which no choice is left,
+    /// over all sets of ends." The levels narrow down: each asks what the one before
+    /// it asks, and one thing more. So the choice that passes the most of them tells
+    /// how many are left: the reason is the next level, or 0 if there is none.
+    pub fn reason(&self, node: usize, budget: &mut Budget) -> Result<u8, Stop> {
+        let mut most_passed = 0;
+        for choice in self.all() {
+            budget.take_step()?;
+            most_passed = most_passed.max(self.levels_passed(&choice, node));
+            if most_passed == LAST_LEVEL {
+                return Ok(0); // "an acceptable one exists"
+            }
+        }
+        Ok(most_passed + 1)
+    }
+
+    /// Whether a choice is left at this level, 1 to 5: one that passes it and all
+    /// levels before it.
+    pub fn is_left(&self, level: u8, node: usize, budget: &mut Budget) -> Result<bool, Stop> {
+        for choice in self.all() {
+            budget.take_step()?;
+            if (1..=level).all(|asked| self.passes(asked, &choice, node)) {
+                return Ok(true);
+            }
+        }
+        Ok(false)
+    }
+
+    /// "all sets of ends": for each number below 2 to the number of ends, the ends
+    /// whose bits are 1 in it.
+    fn all(&self) -> impl Iterator<Item = Vec<usize>> {
+        let ends = self.offers.ends.len();
+        let choice_of = move |set: u32| (0..ends).filter(|end| set >> end & 1 == 1).collect();
+        (0..1 << ends).map(choice_of)
+    }
+
+    /// How many levels the choice passes before the first that it does not.
+    fn levels_passed(&self, choice: &[usize], node: usize) -> u8 {
+        let is_passed = |level: &u8| self.passes(*level, choice, node);
+        (1..=LAST_LEVEL).take_while(is_passed).count() as u8
+    }
+
+    /// Whether the choice has the one thing that this level asks of the choices left
+    /// by the levels before it.
+    fn passes(&self, level: u8, choice: &[usize], node: usize) -> bool {
+        match level {
+            // "1 no end belongs to it", so that no choice "takes an end of it"
+            1 => self.has_end_of(choice, node),
+            // "2 no choice that takes an end of it satisfies its own destination rule"
+            2 => self.destination_agrees(self.destination(node), choice),
+            // "3 none that does so is free of competing ends"
+            3 => self.rule_1(choice).is_ok(),
+            // "4 none of those passes all forks whole"
+            4 => self.rule_2(choice).is_ok(),
+            // "5 none of those satisfies all destinations"
+            _ => self.rule_3(choice).is_ok(),
+        }
+    }
+
+    /// The destination whose rule is the node's own. "For a pin, its own rule is its
+    /// action's." Level 1 is asked first, so the node exists.
+    fn destination(&self, node: usize) -> usize {
+        if is_pin(self.table.kind(node)) {
+            usize::from(self.table.nodes[node].owner)
+        } else {
+            node
         }
     }
 

@@ -1,4 +1,5 @@
-//! The paper's heading "Operations and their numbers": the six operations.
+//! The paper's heading "Operations and their numbers": its six operations, and
+//! [`why`], the new tool of wish 4.
 //!
 //! "The lowest number that applies to the operation is given": every function
 //! here judges its refusals in the order of their numbers and stops at the first.
@@ -72,6 +73,22 @@ pub fn pick(
     unbudgeted(|steps| pick_within(table, marking, guards, bounds, node, room, steps))
 }
 
+/// Wish 4: "A new tool names the reason for a node: 1 no end belongs to it; 2 no
+/// choice that takes an end of it satisfies its own destination rule; 3 none that
+/// does so is free of competing ends; 4 none of those passes all forks whole; 5 none
+/// of those satisfies all destinations; 0 an acceptable one exists." "It takes what
+/// pick takes and writes that byte. Refusals: those of sheet."
+pub fn why(
+    table: &[u8],
+    marking: &[u8],
+    guards: &[u8],
+    bounds: &[u8],
+    node: u8,
+    room: usize,
+) -> Answer {
+    unbudgeted(|steps| why_within(table, marking, guards, bounds, node, room, steps))
+}
+
 /// "step: as sheet, with a choice. Writes the marking."
 pub fn step(
     table: &[u8],
@@ -125,6 +142,24 @@ pub fn pick_within(
     )
 }
 
+/// [`why`] with at most `budget` enumeration steps, `None` if they run out. Each set of
+/// ends that is tried takes one.
+pub fn why_within(
+    table: &[u8],
+    marking: &[u8],
+    guards: &[u8],
+    bounds: &[u8],
+    node: u8,
+    room: usize,
+    budget: u64,
+) -> Option<Answer> {
+    let mut budget = Budget::new(budget);
+    budgeted_answer(
+        Board::of(table, marking, guards, bounds, &mut budget)
+            .and_then(|board| board.explained(node, room, &mut budget)),
+    )
+}
+
 /// [`step`] with at most `budget` enumeration steps, `None` if they run out.
 pub fn step_within(
     table: &[u8],
@@ -142,8 +177,8 @@ pub fn step_within(
     )
 }
 
-/// What sheet, pick and step judge first: a table, a marking and the offers under
-/// some guards and bounds. Read once, so that many choices can be tried on it.
+/// What sheet, pick, why and step judge first: a table, a marking and the offers
+/// under some guards and bounds. Read once, so that many choices can be tried on it.
 #[derive(Debug)]
 pub struct Board {
     table: Table,
@@ -152,8 +187,8 @@ pub struct Board {
 }
 
 impl Board {
-    /// The board of these, or the refusal, 1 to 8 or 18, that sheet, pick and step
-    /// share; `None` if it takes more than `budget` enumeration steps.
+    /// The board of these, or the refusal, 1 to 8 or 18, that sheet, pick, why and
+    /// step share; `None` if it takes more than `budget` enumeration steps.
     pub fn within(
         table: &[u8],
         marking: &[u8],
@@ -235,6 +270,24 @@ impl Board {
         budgeted_answer(self.picked(node, room, &mut Budget::new(budget)))
     }
 
+    /// What [`why`] answers here, `None` if it takes more than `budget` enumeration
+    /// steps.
+    pub fn why_within(&self, node: u8, room: usize, budget: u64) -> Option<Answer> {
+        budgeted_answer(self.explained(node, room, &mut Budget::new(budget)))
+    }
+
+    /// Whether a choice is left at this level of wish 4, 1 to 5, for this node, `None`
+    /// if it takes more than `budget` enumeration steps. No answer asks for one level
+    /// alone; it says in the wish's own words what [`why`] tells: "the first level at
+    /// which no choice is left". 255 is here the number of a node that doesn't exist.
+    pub fn is_left_within(&self, level: u8, node: u8, budget: u64) -> Option<bool> {
+        let node = usize::from(node);
+        let is_left = self
+            .choices()
+            .is_left(level, node, &mut Budget::new(budget));
+        is_left.ok() // it is never refused
+    }
+
     /// The marking that step writes.
     fn stepped(&self, choice: &[u8], room: usize) -> Result<Vec<u8>, Refusal> {
         let choices = self.choices();
@@ -247,6 +300,12 @@ impl Board {
     fn picked(&self, node: u8, room: usize, budget: &mut Budget) -> Result<Vec<u8>, Stop> {
         let choice = picked(&self.choices(), node, budget)?;
         Ok(fit(choice.iter().map(|end| *end as u8).collect(), room)?)
+    }
+
+    /// The reason that why writes.
+    fn explained(&self, node: u8, room: usize, budget: &mut Budget) -> Result<Vec<u8>, Stop> {
+        let reason = reason(&self.choices(), node, budget)?;
+        Ok(fit(vec![reason], room)?)
     }
 }
 
@@ -358,6 +417,15 @@ fn picked(choices: &Choices, node: u8, budget: &mut Budget) -> Result<Vec<usize>
     };
     let first = choices.first(named, budget)?;
     Ok(first.ok_or_else(|| Refusal::new(NO_PICK, usize::from(node)))?)
+}
+
+/// The reason for a node. "A node that doesn't exist gets 1", as no end belongs to
+/// it; "255 names none and gets 0."
+fn reason(choices: &Choices, node: u8, budget: &mut Budget) -> Result<u8, Stop> {
+    if node == NO_NODE {
+        return Ok(0);
+    }
+    choices.reason(usize::from(node), budget)
 }
 
 /// Refusal 17: "lent output shorter than the reply".

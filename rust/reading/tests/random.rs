@@ -3,11 +3,11 @@
 
 mod common;
 
-use common::{number, reply, MOST, ROOM};
+use common::{big_endian, ends_of, for_each_point, number, reply, End, MOST, ROOM};
 use reading::random::{self, Event, Parts, Rng};
 use reading::{
-    check, finish, pick, pick_within, sheet, sheet_within, start, step, step_within, Answer, Board,
-    NO_BOUNDS, NO_NODE,
+    check, finish, pick, pick_within, sheet, sheet_within, start, step, step_within, why_within,
+    Answer, Board, NO_BOUNDS, NO_NODE,
 };
 use std::collections::{BTreeMap, BTreeSet};
 
@@ -78,21 +78,6 @@ fn the_same_seed_gives_the_same_event() {
     };
     assert_eq!(play(7), play(7));
     assert_ne!(play(7), play(8));
-}
-
-/// The points of so many random events.
-fn for_each_point(seed: u64, events: usize, mut visit: impl FnMut(&mut Rng, &Event)) {
-    let mut rng = Rng::new(seed);
-    for number in 0..events {
-        let mut event = match number % 3 {
-            0 => Event::anywhere(&mut rng),
-            _ => Event::begin(&mut rng),
-        };
-        visit(&mut rng, &event);
-        while event.go_on(&mut rng) {
-            visit(&mut rng, &event);
-        }
-    }
 }
 
 /// What a random call at this point answers, `None` if it takes too long.
@@ -219,46 +204,6 @@ fn targets(event: &Event) -> Vec<Vec<u8>> {
         }
     };
     ends_of(&sheet).into_iter().map(nodes_of).collect()
-}
-
-/// An end as a sheet writes it.
-#[derive(Debug, PartialEq)]
-struct End {
-    /// All its bytes: last edge, flag, value, paths.
-    record: Vec<u8>,
-    /// Its value, 0 if it has none.
-    value: u32,
-    /// The edges of all its paths.
-    edges: Vec<u8>,
-}
-
-/// The ends of a sheet.
-fn ends_of(sheet: &[u8]) -> Vec<End> {
-    let mut ends = Vec::new();
-    let mut place = 4;
-    while place < sheet.len() {
-        let first = place;
-        let mut edges = Vec::new();
-        place += 7;
-        for _ in 0..sheet[first + 6] {
-            let next = place + 1 + usize::from(sheet[place]);
-            edges.extend_from_slice(&sheet[place + 1..next]);
-            place = next;
-        }
-        ends.push(End {
-            record: sheet[first..place].to_vec(),
-            value: big_endian(&sheet[first + 2..first + 6]),
-            edges,
-        });
-    }
-    ends
-}
-
-/// The number in these bytes.
-fn big_endian(bytes: &[u8]) -> u32 {
-    bytes
-        .iter()
-        .fold(0, |number, byte| number << 8 | u32::from(*byte))
 }
 
 /// The entries of a bounds list, as many as are whole: edge, low, high.
@@ -541,6 +486,7 @@ fn no_bytes_are_too_strange() {
         sheet_within(table, marking, guards, bounds, room, BUDGET);
         sheet_within(table, marking, guards, &bytes, room, BUDGET);
         pick_within(table, marking, guards, bounds, node, room, BUDGET);
+        why_within(table, marking, guards, bounds, node, room, BUDGET);
         step_within(table, marking, guards, bounds, &bytes, room, BUDGET);
         finish(table, marking, node, &bytes, room);
         random::values(&mut rng, &bytes);

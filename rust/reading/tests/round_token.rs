@@ -4,70 +4,13 @@
 mod common;
 
 use common::{
-    framed, hex, number, refused, reply, ACTION, BUFFER, CONTROL, DECISION, FLOW_FINAL, FORK,
-    INCOMING, INITIAL, INPUT_PIN, JOIN, MERGE, OBJECT, OUTGOING, ROOM,
+    framed, number, refused, reply, Point, ACTION, BUFFER, CONTROL, DECISION, FLOW_FINAL, FORK,
+    INCOMING, INITIAL, INPUT_PIN, JOIN, MERGE, OBJECT, OUTGOING,
 };
 use reading::random::Parts;
-use reading::{pick, sheet, start, step, Answer, Board, NO_BOUNDS, NO_NODE};
-
-/// A table and a marking of it, under guards that are all 1 and no bounds.
-struct Point {
-    table: Vec<u8>,
-    marking: Vec<u8>,
-    guards: Vec<u8>,
-}
+use reading::{Answer, Board, NO_BOUNDS, NO_NODE};
 
 impl Point {
-    /// The table of these parts at this marking.
-    fn at(parts: &Parts, marking: Vec<u8>) -> Point {
-        Point {
-            table: parts.write(),
-            marking,
-            guards: vec![1; parts.edges.len()],
-        }
-    }
-
-    /// The start with these values, one in each incoming parameter.
-    fn started(parts: &Parts, values: &[u32]) -> Point {
-        let list = |value: &u32| format!("01 {value:08X}");
-        let lists: Vec<String> = values.iter().map(list).collect();
-        let marking = reply(start(&parts.write(), &hex(&lists.concat()), ROOM));
-        Point::at(parts, marking)
-    }
-
-    /// The ends, each as its value and its paths: "7 0,2,4 3,4".
-    fn ends(&self) -> Vec<String> {
-        let (table, marking) = (&self.table, &self.marking);
-        let sheet = reply(sheet(table, marking, &self.guards, &NO_BOUNDS, ROOM));
-        let mut rest = sheet[4..].iter().copied();
-        let mut take = |number: u8| -> Vec<u8> { rest.by_ref().take(number.into()).collect() };
-        let mut ends = Vec::new();
-        for _ in 0..sheet[3] {
-            let record = take(7);
-            let mut end = match record[1] {
-                1 => record[5].to_string(), // values here are of one byte
-                _ => "-".to_string(),
-            };
-            for _ in 0..record[6] {
-                let length = take(1)[0];
-                let edges: Vec<String> = take(length).iter().map(|e| e.to_string()).collect();
-                end = format!("{end} {}", edges.join(","));
-            }
-            ends.push(end);
-        }
-        ends
-    }
-
-    fn pick(&self, node: u8) -> Answer {
-        let (table, marking) = (&self.table, &self.marking);
-        pick(table, marking, &self.guards, &NO_BOUNDS, node, ROOM)
-    }
-
-    fn step(&self, choice: &[u8]) -> Answer {
-        let (table, marking) = (&self.table, &self.marking);
-        step(table, marking, &self.guards, &NO_BOUNDS, choice, ROOM)
-    }
-
     /// The pairs of ends that step refuses with 10, at the lower one.
     fn competing(&self) -> Vec<(u8, u8)> {
         let ends = self.ends().len() as u8;

@@ -48,6 +48,72 @@ impl Point {
     }
 }
 
+/// Nodes and edges, and the values that some of the nodes hold.
+#[derive(Default)]
+pub struct Drawing {
+    pub parts: Parts,
+    pub held: Vec<(u8, u32)>,
+}
+
+impl Drawing {
+    pub fn node(&mut self, kind: u8, upper: u8) -> u8 {
+        self.parts.add_node(kind, upper)
+    }
+
+    pub fn edge(&mut self, kind: u8, source: u8, target: u8) {
+        self.parts.add_edge(kind, source, target, 0);
+    }
+
+    /// A node that an edge enters from this one.
+    pub fn behind(&mut self, edge: u8, source: u8, kind: u8, upper: u8) -> u8 {
+        let target = self.node(kind, upper);
+        self.edge(edge, source, target);
+        target
+    }
+
+    /// A pin that an edge enters from this node. Its action waits for nothing else and has the next number.
+    pub fn pin_behind(&mut self, source: u8, lower: u8, upper: u8) -> u8 {
+        let action = self.parts.nodes.len() as u8 + 1;
+        let pin = self.parts.add_pin(INPUT_PIN, action, lower, upper);
+        self.node(ACTION, 0);
+        self.edge(OBJECT, source, pin);
+        pin
+    }
+
+    /// An initial node with an edge to this node.
+    pub fn token(&mut self, target: u8) -> u8 {
+        let start = self.node(INITIAL, 0);
+        self.edge(CONTROL, start, target);
+        start
+    }
+
+    /// Two tokens that a merge brings to this node.
+    pub fn either_token(&mut self, target: u8) {
+        let merge = self.node(MERGE, 0);
+        let start = self.token(merge);
+        self.edge(CONTROL, start, merge);
+        self.edge(CONTROL, merge, target);
+    }
+
+    /// A buffer that holds this value, with an edge to this node.
+    pub fn result(&mut self, value: u32, target: u8) -> u8 {
+        let buffer = self.node(BUFFER, 1);
+        self.held.push((buffer, value));
+        self.edge(OBJECT, buffer, target);
+        buffer
+    }
+
+    /// With a token on each edge of an initial node.
+    pub fn point(&self) -> Point {
+        Point::of(&self.parts, &self.held)
+    }
+
+    /// The answer that is the marking with these values, and these tokens on the edges of initial nodes.
+    pub fn holding(&self, held: &[(u8, u32)], tokens: &[u8]) -> Answer {
+        Answer::Good(marking(&self.parts, held, tokens))
+    }
+}
+
 /// The marking with each of these values in its node, in this order, so many tokens on each edge of an initial node, and all else empty. An action runs if an
 /// input pin of it holds a value.
 pub fn marking(parts: &Parts, held: &[(u8, u32)], tokens: &[u8]) -> Vec<u8> {

@@ -4,12 +4,14 @@
 
 pub mod drawn;
 pub mod limits;
+pub mod pairings;
 pub mod picks;
 pub mod points;
 pub mod rounds;
 pub mod second;
 pub mod steps;
 pub mod vectors;
+pub mod whys;
 
 use keshmirun::Refusal;
 use reading::random::{Parts, Rng};

@@ -1,5 +1,6 @@
-//! A second way to pick, written apart from the plain reading: makers and sets of ends are words, the three rules are counts over sets of ends, and a search
-//! leaves a branch where no acceptable choice goes on. It takes good tables, live markings of them, legal guards and good bounds lists.
+//! A second way to pick and to tell why not, written apart from the plain reading: makers and sets of ends are words, the three rules are counts over sets of
+//! ends, and a search leaves a branch where no choice that is asked for goes on. It takes good tables, live markings of them, legal guards and good bounds
+//! lists.
 
 use reading::random::Parts;
 
@@ -84,6 +85,13 @@ struct Rule {
     most: u32,
 }
 
+/// What a choice is asked for: these rules, that none of its ends compete, and an end of a set, if one is wanted.
+struct Asked<'a> {
+    rules: Vec<&'a Rule>,
+    without_rivals: bool,
+    wanted: Option<u32>,
+}
+
 pub struct Second {
     parts: Parts,
     held: Held,
@@ -96,7 +104,9 @@ pub struct Second {
     made: Vec<Option<Vec<usize>>>,
     /// The ends, in the paper's order.
     ends: Vec<usize>,
-    rules: Vec<Rule>,
+    forks: Vec<Rule>,
+    /// By node.
+    destinations: Vec<Vec<Rule>>,
 }
 
 impl Second {
@@ -111,7 +121,8 @@ impl Second {
             rivals: Vec::new(),
             made: vec![None; parts.edges.len()],
             ends: Vec::new(),
-            rules: Vec::new(),
+            forks: Vec::new(),
+            destinations: Vec::new(),
             parts,
         };
         for edge in 0..guards.len() {
@@ -120,8 +131,8 @@ impl Second {
         let mut ends: Vec<usize> = (0..second.offers.len()).filter(|offer| !is_control_node(second.kind(second.target(*offer)))).collect();
         ends.sort_by_key(|end| (second.offers[*end].edge, second.offers[*end].paths.clone()));
         second.ends = ends;
-        second.rules = second.fork_rules();
-        second.rules.extend((0..second.parts.nodes.len()).flat_map(|node| second.destination_rules(node)).collect::<Vec<Rule>>());
+        second.forks = second.fork_rules();
+        second.destinations = (0..second.parts.nodes.len()).map(|node| second.destination_rules(node)).collect();
         Some(second).filter(|second| second.ends.len() <= 20)
     }
 
@@ -287,16 +298,41 @@ impl Second {
 
     /// The first acceptable choice, with a node named the first that has an end of it.
     pub fn pick(&self, node: Option<u8>) -> Option<Vec<u8>> {
-        let wanted = node.map(|node| self.ends_of(node));
-        let all = self.set(|_| true);
-        let first = self.first(0, 0, all, wanted)?;
+        let rules = self.forks.iter().chain(self.destinations.iter().flatten()).collect();
+        let first = self.first(&Asked { rules, without_rivals: true, wanted: node.map(|node| self.ends_of(node)) })?;
         Some((0..20).filter(|end| first >> end & 1 == 1).collect())
     }
 
-    /// The first acceptable choice that holds `taken`, of the ends from `next` on some of `open`, and no others.
-    fn first(&self, next: usize, taken: u32, open: u32, wanted: Option<u32>) -> Option<u32> {
-        let open = self.narrowed(taken, open)?;
-        if wanted.map_or(false, |wanted| wanted & (taken | open) == 0) {
+    /// The reason for this node: the first of the levels at which there is no choice, or 0.
+    pub fn why(&self, node: u8) -> u8 {
+        let own = self.own_rules(node);
+        let with_forks: Vec<&Rule> = own.iter().copied().chain(&self.forks).collect();
+        let all = with_forks.iter().copied().chain(self.destinations.iter().flatten()).collect();
+        let levels = [(Vec::new(), false), (own.clone(), false), (own, true), (with_forks, true), (all, true)];
+        let wanted = Some(self.ends_of(node));
+        let is_empty = |(rules, without_rivals)| self.first(&Asked { rules, without_rivals, wanted }).is_none();
+        levels.into_iter().position(is_empty).map_or(0, |passed| passed as u8 + 1)
+    }
+
+    /// Rule 3 at the node or, for a pin, at its action; an action's pins have a part in it. None at a number that is no node.
+    fn own_rules(&self, node: u8) -> Vec<&Rule> {
+        let own = match self.parts.nodes.get(usize::from(node)) {
+            Some([INPUT_PIN, owner, ..]) => *owner,
+            _ => node,
+        };
+        let is_part = |other: usize| other == usize::from(own) || self.parts.nodes[other][..2] == [INPUT_PIN, own];
+        self.destinations.iter().enumerate().filter(|(other, _)| is_part(*other)).flat_map(|(_, rules)| rules).collect()
+    }
+
+    /// The first choice that has what is asked for.
+    fn first(&self, asked: &Asked) -> Option<u32> {
+        self.first_from(asked, 0, 0, self.set(|_| true))
+    }
+
+    /// The same among those that hold `taken`, of the ends from `next` on some of `open`, and no others.
+    fn first_from(&self, asked: &Asked, next: usize, taken: u32, open: u32) -> Option<u32> {
+        let open = narrowed(&asked.rules, taken, open)?;
+        if asked.wanted.map_or(false, |wanted| wanted & (taken | open) == 0) {
             return None;
         }
         if next == self.ends.len() {
@@ -305,37 +341,37 @@ impl Second {
         let bit = 1 << next;
         let rest = open & !bit;
         if open & bit != 0 {
-            let rivals = self.set(|end| self.compete(self.ends[next], end));
-            let with = self.first(next + 1, taken | bit, rest & !rivals, wanted);
+            let rivals = if asked.without_rivals { self.set(|end| self.compete(self.ends[next], end)) } else { 0 };
+            let with = self.first_from(asked, next + 1, taken | bit, rest & !rivals);
             if with.is_some() {
                 return with;
             }
         }
-        self.first(next + 1, taken, rest, wanted)
+        self.first_from(asked, next + 1, taken, rest)
     }
+}
 
-    /// The open ends that some acceptable choice between `taken` and `taken` with all open ends could hold; none if there is no such choice. Every step is
-    /// right for each of them: it counts no fewer than `taken` and no more than all. With none open, this judges `taken` itself.
-    fn narrowed(&self, taken: u32, mut open: u32) -> Option<u32> {
-        loop {
-            let before = open;
-            for rule in &self.rules {
-                let applies = taken & rule.when != 0;
-                let now = (taken & rule.counted).count_ones();
-                let too_few = ((taken | open) & rule.counted).count_ones() < rule.least;
-                if applies && (too_few || now > rule.most) {
-                    return None;
-                }
-                if too_few {
-                    open &= !rule.when;
-                }
-                if applies && now == rule.most {
-                    open &= !rule.counted;
-                }
+/// The open ends that some choice by these rules between `taken` and `taken` with all open ends could hold; none if there is no such choice. Every step is right
+/// for each of them: it counts no fewer than `taken` and no more than all. With none open, this judges `taken` itself.
+fn narrowed(rules: &[&Rule], taken: u32, mut open: u32) -> Option<u32> {
+    loop {
+        let before = open;
+        for rule in rules {
+            let applies = taken & rule.when != 0;
+            let now = (taken & rule.counted).count_ones();
+            let too_few = ((taken | open) & rule.counted).count_ones() < rule.least;
+            if applies && (too_few || now > rule.most) {
+                return None;
             }
-            if open == before {
-                return Some(open);
+            if too_few {
+                open &= !rule.when;
             }
+            if applies && now == rule.most {
+                open &= !rule.counted;
+            }
+        }
+        if open == before {
+            return Some(open);
         }
     }
 }

@@ -1,6 +1,6 @@
 //! The outside calls of crates/vectors, with their right answers, as the program `vectors` reads and writes them.
 
-use super::called;
+use super::{called, whys};
 use keshmirun::{Refusal, Terms};
 use reading::Answer;
 use std::fs;
@@ -24,10 +24,13 @@ pub enum Operation {
     Finish,
     /// How many states pick's search visits; it takes what pick takes, and is not exported.
     Visits,
+    Why,
+    /// How many states why's search visits at each level before the last; it takes what why takes, and is not exported.
+    Levels,
 }
 
 impl Operation {
-    /// Makes this call, visits' by pick.
+    /// Makes this call, visits' by pick and levels' by why.
     pub fn make(self, node: u8, [table, marking, given, bounds, choice]: [&[u8]; 5], out: &mut [u8]) -> Result<usize, Refusal> {
         let terms = Terms::new(given).with_bounds(bounds);
         match self {
@@ -35,6 +38,7 @@ impl Operation {
             Operation::Start => keshmirun::start(table, given, out),
             Operation::Sheet => keshmirun::sheet(table, marking, terms, out),
             Operation::Pick | Operation::Visits => keshmirun::pick(table, marking, terms, node, out),
+            Operation::Why | Operation::Levels => whys::into(table, marking, given, bounds, node, out),
             Operation::Step => keshmirun::step(table, marking, terms, choice, out),
             Operation::Finish => keshmirun::finish(table, marking, node, given, out),
         }
@@ -46,12 +50,12 @@ impl Operation {
     }
 }
 
-const OPERATIONS: [Operation; 7] = {
+const OPERATIONS: [Operation; 9] = {
     use Operation::*;
-    [Check, Start, Sheet, Pick, Step, Finish, Visits]
+    [Check, Start, Sheet, Pick, Step, Finish, Visits, Why, Levels]
 };
 
-/// All calls, in order, each with its answer (visits has none).
+/// All calls, in order, each with its answer (visits and levels have none).
 pub fn all() -> Vec<(Call, Option<Answer>)> {
     let folder = Path::new(env!("CARGO_MANIFEST_DIR")).join("../crates/vectors");
     let stdin = fs::read(folder.join("stdin")).expect("the calls");
@@ -88,7 +92,7 @@ fn take<'a>(rest: &mut &'a [u8], count: usize) -> &'a [u8] {
 fn answer(line: &str) -> Option<Answer> {
     let words: Vec<&str> = line.split(' ').collect();
     match words[..] {
-        ["visits", _] => None,
+        ["visits", _] | ["levels", _, _, _, _] => None,
         ["0", "0", "-"] => Some(Answer::Good(Vec::new())),
         ["0", "0", reply] => Some(Answer::Good(hex(reply))),
         [number, place, "-"] => Some(Answer::Refused { number: number.parse().unwrap(), place: place.parse().unwrap() }),

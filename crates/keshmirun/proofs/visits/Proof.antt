@@ -1,4 +1,4 @@
--- `visits`: the table's refusals, then how far pick searches on the board. Assumes nothing.
+-- `visits`: the table's refusals, then how far the search at a level goes on the board. Assumes nothing.
 use mathlib.Core.Path.{sym, ap, _∙_}
 use mathlib.Core.List.{[]}
 use Rattle.paper.specs.Offers.{terms}
@@ -23,7 +23,7 @@ pack-requires c κs = search needs
 
 returns : tie.Need-returns
 returns c = let a = c .before .before .before .before .before .before .before .before .before .args in
-    table-refused (a .table .now) (a .marking .now) (terms (a .guards .now) (a .bounds .now)) [] (Count (a .node)) _ _ (c .pack .result) [] (sym (c .before .before .before .before .read .ensures) ∙ ap said (c .before .before .number .given .1)) (c .pack .ensures) .0
+    table-refused (a .table .now) (a .marking .now) (terms (a .guards .now) (a .bounds .now)) [] (Count (a .node) (a .k)) _ _ (c .pack .result) [] (sym (c .before .before .before .before .read .ensures) ∙ ap said (c .before .before .number .given .1)) (c .pack .ensures) .0
 
 slice-aggregate-ask : tie.Need-slice-aggregate-ask
 slice-aggregate-ask c = search needs

@@ -186,7 +186,7 @@ fn run_action(rng: &mut Rng, table: &Table, marking: &mut Marking, action: usize
     }
 }
 
-/// A random event at one point: what sheet, pick, step and finish are given.
+/// A random event at one point: what sheet, pick, why, step and finish are given.
 #[derive(Debug, Clone)]
 pub struct Event {
     /// A good table.
@@ -271,8 +271,8 @@ impl Event {
         }
     }
 
-    /// A node to name to pick: most often one that an edge with an end enters, or
-    /// its action; at times any number.
+    /// A node to name to pick or why: most often one that an edge with an end enters,
+    /// or its action; at times any number.
     pub fn node(&self, rng: &mut Rng) -> u8 {
         let targets = self.board().map_or(Vec::new(), |board| board.targets());
         self.node_among(rng, &targets)

@@ -1,9 +1,10 @@
-//! What the tests share: kinds, hex, bounds lists, refusals and the paper's small
-//! event.
+//! What the tests share: kinds, hex, bounds lists, refusals, the paper's small event,
+//! points of hand-made tables, sheets taken apart and the points of random events.
 
 #![allow(dead_code)]
 
-use reading::Answer;
+use reading::random::{Event, Parts, Rng};
+use reading::{pick, sheet, start, step, Answer, NO_BOUNDS};
 
 // The kinds of nodes.
 pub const INITIAL: u8 = 1;
@@ -91,4 +92,118 @@ pub fn small_marking() -> Vec<u8> {
 /// The small event's guards.
 pub fn small_guards() -> Vec<u8> {
     vec![1; 5]
+}
+
+/// A table and a marking of it, under guards that are all 1 and no bounds.
+pub struct Point {
+    pub table: Vec<u8>,
+    pub marking: Vec<u8>,
+    pub guards: Vec<u8>,
+}
+
+impl Point {
+    /// The table of these parts at this marking.
+    pub fn at(parts: &Parts, marking: Vec<u8>) -> Point {
+        Point {
+            table: parts.write(),
+            marking,
+            guards: vec![1; parts.edges.len()],
+        }
+    }
+
+    /// The start with these values, one in each incoming parameter.
+    pub fn started(parts: &Parts, values: &[u32]) -> Point {
+        let list = |value: &u32| format!("01 {value:08X}");
+        let lists: Vec<String> = values.iter().map(list).collect();
+        let marking = reply(start(&parts.write(), &hex(&lists.concat()), ROOM));
+        Point::at(parts, marking)
+    }
+
+    /// The ends, each as its value and its paths: "7 0,2,4 3,4".
+    pub fn ends(&self) -> Vec<String> {
+        let (table, marking) = (&self.table, &self.marking);
+        let sheet = reply(sheet(table, marking, &self.guards, &NO_BOUNDS, ROOM));
+        let mut rest = sheet[4..].iter().copied();
+        let mut take = |number: u8| -> Vec<u8> { rest.by_ref().take(number.into()).collect() };
+        let mut ends = Vec::new();
+        for _ in 0..sheet[3] {
+            let record = take(7);
+            let mut end = match record[1] {
+                1 => record[5].to_string(), // values here are of one byte
+                _ => "-".to_string(),
+            };
+            for _ in 0..record[6] {
+                let length = take(1)[0];
+                let edges: Vec<String> = take(length).iter().map(|e| e.to_string()).collect();
+                end = format!("{end} {}", edges.join(","));
+            }
+            ends.push(end);
+        }
+        ends
+    }
+
+    pub fn pick(&self, node: u8) -> Answer {
+        let (table, marking) = (&self.table, &self.marking);
+        pick(table, marking, &self.guards, &NO_BOUNDS, node, ROOM)
+    }
+
+    pub fn step(&self, choice: &[u8]) -> Answer {
+        let (table, marking) = (&self.table, &self.marking);
+        step(table, marking, &self.guards, &NO_BOUNDS, choice, ROOM)
+    }
+}
+
+/// An end as a sheet writes it.
+#[derive(Debug, PartialEq)]
+pub struct End {
+    /// All its bytes: last edge, flag, value, paths.
+    pub record: Vec<u8>,
+    /// Its value, 0 if it has none.
+    pub value: u32,
+    /// The edges of all its paths.
+    pub edges: Vec<u8>,
+}
+
+/// The ends of a sheet.
+pub fn ends_of(sheet: &[u8]) -> Vec<End> {
+    let mut ends = Vec::new();
+    let mut place = 4;
+    while place < sheet.len() {
+        let first = place;
+        let mut edges = Vec::new();
+        place += 7;
+        for _ in 0..sheet[first + 6] {
+            let next = place + 1 + usize::from(sheet[place]);
+            edges.extend_from_slice(&sheet[place + 1..next]);
+            place = next;
+        }
+        ends.push(End {
+            record: sheet[first..place].to_vec(),
+            value: big_endian(&sheet[first + 2..first + 6]),
+            edges,
+        });
+    }
+    ends
+}
+
+/// The number in these bytes.
+pub fn big_endian(bytes: &[u8]) -> u32 {
+    bytes
+        .iter()
+        .fold(0, |number, byte| number << 8 | u32::from(*byte))
+}
+
+/// The points of so many random events.
+pub fn for_each_point(seed: u64, events: usize, mut visit: impl FnMut(&mut Rng, &Event)) {
+    let mut rng = Rng::new(seed);
+    for number in 0..events {
+        let mut event = match number % 3 {
+            0 => Event::anywhere(&mut rng),
+            _ => Event::begin(&mut rng),
+        };
+        visit(&mut rng, &event);
+        while event.go_on(&mut rng) {
+            visit(&mut rng, &event);
+        }
+    }
 }

@@ -1,0 +1,52 @@
+-- `why`: the table's refusals, then what is asked of the board. Assumes nothing.
+use mathlib.Core.Path.{sym, ap, _∙_}
+use mathlib.Core.List.{[]}
+use Rattle.paper.specs.Offers.{terms}
+use Rattle.table.specs.Reading.{said}
+use Rattle.keshmirun.specs.declared.asking.Request.the-variants.{Why}
+use Rattle.keshmirun.proofs.Requests.{table-refused}
+use borrow.Author.Needs.{needs}
+use Rattle.keshmirun.proofs.why.Statement.{statement}
+use Rattle.keshmirun.proofs.why.Tie as tie
+
+read-requires : tie.Need-read-requires
+read-requires c κs = search needs
+
+enum-known-x : tie.Need-enum-known-x
+enum-known-x c = search needs
+
+enum-known-number : tie.Need-enum-known-number
+enum-known-number c = search needs
+
+pack-requires : tie.Need-pack-requires
+pack-requires c κs = search needs
+
+returns : tie.Need-returns
+returns c = let a = c .before .before .before .before .before .before .before .before .before .before .args in
+    table-refused (a .table .now) (a .marking .now) (terms (a .guards .now) (a .bounds .now)) [] (Why (a .node)) _ _ (c .pack .result) (a .out .now) (sym (c .before .before .before .before .read .ensures) ∙ ap said (c .before .before .number .given .1)) (c .pack .ensures)
+
+slice-aggregate-ask : tie.Need-slice-aggregate-ask
+slice-aggregate-ask c = search needs
+
+ask-requires : tie.Need-ask-requires
+ask-requires c κs = sym (c .before .before .before .before .before .read .ensures) ∙ ap said (c .before .before .before .x .given .1)
+
+same-length : tie.Need-same-length
+same-length c = search needs
+
+returns-2 : tie.Need-returns-2
+returns-2 c = search needs
+
+pub why-spec : {M : Type 1} → statement M
+why-spec =
+    tie.close
+    (tie.spec
+    read-requires
+    enum-known-x
+    enum-known-number
+    pack-requires
+    returns
+    slice-aggregate-ask
+    ask-requires
+    same-length
+    returns-2)

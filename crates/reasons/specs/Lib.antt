@@ -1,0 +1,2 @@
+-- What is answered level by level.
+pub mod Reasons
