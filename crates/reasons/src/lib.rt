@@ -112,6 +112,7 @@ fn fill(
 }
 
 // The net of a level and what is wanted of it: an end of the node, its own rule, and the first rules of the list; k levels past the first.
+// Of the columns the last edges stay: rules on edges ask for ends by their targets and homes.
 fn prepare(
     t: &[u8],
     table: Table,
