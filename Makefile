@@ -1,6 +1,9 @@
 # make: prove every crate, make the archives for Rust and C, and print the sheet of the small event.  make test: the gate.
 .PHONY: all sheet test bench definitions
 
+# where checks lay out their files
+export TMPDIR := $(shell tools/scratch)
+
 all:
 	@tools/progress target/log/rt check
 	@tools/archive
