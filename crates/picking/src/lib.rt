@@ -124,7 +124,15 @@ pub fn choose(
     first(&net, asked, n)
 }
 
-// How many states the search for that choice visits: what a test can hold down.
+// How many states the search in a net visits: what a test can hold down.
+pub fn effort(net: &[u32], asked: Question, n: usize) -> usize
+    requires { ⌜ (n ≤ 20) × (asked .rules ≤ 105) × (440 ≤ length (now net)) ⌝ }
+    ensures { λ r. ⌜ (1 ≤ r) × (r < 2 ^ (n + 22)) ⌝ }
+{
+    net::states(&net[0..pruning::ENDS + 4 * asked.rules], asked.want, n)
+}
+
+// How many the search for that choice visits.
 pub fn states(
     t: &[u8],
     table: Table,
@@ -139,7 +147,7 @@ pub fn states(
 {
     let mut net = [0u32; rules::CELLS];
     let asked = prepare(t, table, offers, ends, n, held, node, &mut net);
-    net::states(&net[0..pruning::ENDS + 4 * asked.rules], asked.want, n)
+    effort(&net, asked, n)
 }
 
 // What pick answers of n ends, where `found` is what was looked for: row 13, or a choice.

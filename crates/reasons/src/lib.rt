@@ -251,7 +251,7 @@ pub fn states(
     }
     let mut net = [0u32; rules::CELLS];
     let asked = prepare(t, table, offers, ends, n, held, node, k, &mut net);
-    net::states(&net[0..pruning::ENDS + 4 * asked.rules], asked.want, n)
+    picking::effort(&net, asked, n)
 }
 
 // One byte, if there is room for it (row 17).

@@ -27,23 +27,11 @@ slice-aggregate-prepare c = search needs
 prepare-requires : tie.Need-prepare-requires
 prepare-requires c κs = let h = c .before .before .before .before .before .before .before .pre in (h .0, h .1, h .2, omega (arith, c .before .before .before .wide .ensures .0, c .before .if2 .left), blank 440, omega arith)
 
-mul-states : tie.Need-mul-states
-mul-states c = search needs
+slice-aggregate-effort : tie.Need-slice-aggregate-effort
+slice-aggregate-effort c = search needs
 
-add-states : tie.Need-add-states
-add-states c = search needs
-
-sub-states : tie.Need-sub-states
-sub-states c = search needs
-
-part-states-start : tie.Need-part-states-start
-part-states-start c = search needs
-
-part-states-end : tie.Need-part-states-end
-part-states-end c = search needs
-
-states-requires-2 : tie.Need-states-requires-2
-states-requires-2 c κs = search needs
+effort-requires : tie.Need-effort-requires
+effort-requires c κs = search needs
 
 returns-3 : tie.Need-returns-3
 returns-3 c = search needs
@@ -58,10 +46,6 @@ states-spec =
     returns-2
     slice-aggregate-prepare
     prepare-requires
-    mul-states
-    add-states
-    sub-states
-    part-states-start
-    part-states-end
-    states-requires-2
+    slice-aggregate-effort
+    effort-requires
     returns-3)
