@@ -33,7 +33,7 @@ struct Point {
     table: Vec<u8>,
     /// For start.
     values: Vec<u8>,
-    /// For sheet, pick and step.
+    /// For sheet, pick, why and step.
     marking: Vec<u8>,
     guards: Vec<u8>,
     choice: Vec<u8>,

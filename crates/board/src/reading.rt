@@ -25,7 +25,7 @@ ghost use Rattle.rows.specs.Struct.{rowsOf, Full};
 ghost use Rattle.holding.specs.TakenUp.{held, HeldRoom, Holding, LiveHeld};
 ghost use Rattle.board.specs.Reading.{seats, SeatsRoom, BoardRead};
 
-// What sheet, pick and step are asked about: all offers, and the number of ends or the refusal.
+// What sheet, pick, why and step are asked about: all offers, and the number of ends or the refusal.
 pub struct Board {
     pub offers: Offers,
     pub answer: EndsAnswer,

@@ -14,7 +14,7 @@ use Rattle.paper.specs.Table.{nodes, kind, lower, upper, into, out, inpu
 use Rattle.paper.specs.Marking.{Marking, marking, endedOf}
 use Rattle.paper.specs.Offers.{Offer, first, lastEdge, value, makers, origins, elem, compete, isFirst, madeAt, targetOf, belongs, guardsFine, boundsFine, Terms, goesOver, offers, ends, sizesFine}
 
--- what sheet, pick and step are asked about: a table, a marking of it, all offers, and the ends in order
+-- what sheet, pick, why and step are asked about: a table, a marking of it, all offers, and the ends in order
 pub record Board : Type 0 where
   pub table : List ℕ
   pub current : Marking

@@ -211,6 +211,6 @@ pub record Leaves (Allowed : Answer (List ℕ) → Type 0) (word : ℕ) (before 
   pub allowed : Allowed answer
   pub reply : Reply (inRoom (length before) answer) word before after
 
--- for all but pick the definition allows one answer
+-- for all but pick and why, which are relations, the definition is the answer
 abbrev pub Only : Answer (List ℕ) → Answer (List ℕ) → Type 0
 Only a b = b ≡ a
