@@ -4,6 +4,7 @@ use native.Mathlib.Nat.{le-trans, le-of-eq}
 use native.Mathlib.Omega.{arith}
 use Rattle.table.proofs.Reading.{read-good}
 use Rattle.reasons.proofs.Nets.{none-asked, own-asked, rivals-asked, forks-asked}
+use borrow.Author.Needs.{needs}
 use Rattle.reasons.proofs.fill.Statement.{statement}
 use Rattle.reasons.proofs.fill.Tie as tie
 
@@ -14,13 +15,13 @@ returns c =
     (omega arith, λ l room x. rw (c .if1 .taken) (none-asked (a .t .now) (a .offers .node) (a .offers .parents) (a .offers .makers) (a .offers .foes) (a .ends .now) (a .edge .now) (a .target .now) (a .home .now) (a .held .runs) (a .held .kept) (a .offers .count) (a .n) (a .net .now) (h .0) x))
 
 slice-aggregate-add-destinations : tie.Need-slice-aggregate-add-destinations
-slice-aggregate-add-destinations c = sym (c .before .before .before .before .before .before .before .before .before .before .before .before .before .before .before .before .pre .2 .runs-full)
+slice-aggregate-add-destinations c = search needs
 
 slice-aggregate-add-destinations-2 : tie.Need-slice-aggregate-add-destinations-2
 slice-aggregate-add-destinations-2 c = sym (c .before .before .before .before .before .before .before .before .before .before .before .before .before .before .before .before .before .pre .2 .kepts-full)
 
 add-destinations-requires : tie.Need-add-destinations-requires
-add-destinations-requires c κs = let h = c .before .before .before .before .before .before .before .before .before .before .before .before .before .before .before .before .before .pre in let p = h .4 in (omega arith, h .3, p .good-table, p .few-ends, p .end-edges, p .end-targets, p .end-homes, p .node-runs, p .node-stocks)
+add-destinations-requires c κs = let h = c .before .before .before .before .before .before .before .before .before .before .before .before .before .before .before .before .before .pre in let p = h .4 in (omega arith, h .3, p .good-table, p .few-ends, p .end-edges, p .end-targets, p .end-homes, (search needs), p .node-stocks)
 
 same-length : tie.Need-same-length
 same-length c = c .before .before .add-destinations .kept .0
@@ -42,7 +43,7 @@ fill-rivals-requires : tie.Need-fill-rivals-requires
 fill-rivals-requires c κs = let h = c .before .before .before .before .before .before .before .before .before .before .before .before .before .before .before .before .before .pre in let p = h .4 in (h .3, p .makers-of, p .foes-of, p .few-ends)
 
 slice-aggregate-add-destinations-3 : tie.Need-slice-aggregate-add-destinations-3
-slice-aggregate-add-destinations-3 c = sym (c .before .before .before .before .before .before .before .before .before .before .before .before .before .before .before .before .before .before .before .before .before .before .pre .2 .runs-full)
+slice-aggregate-add-destinations-3 c = search needs
 
 slice-aggregate-add-destinations-4 : tie.Need-slice-aggregate-add-destinations-4
 slice-aggregate-add-destinations-4 c = sym (c .before .before .before .before .before .before .before .before .before .before .before .before .before .before .before .before .before .before .before .before .before .before .before .pre .2 .kepts-full)
@@ -51,7 +52,7 @@ add-destinations-requires-2 : tie.Need-add-destinations-requires-2
 add-destinations-requires-2 c κs =
     let h = c .before .before .before .before .before .before .before .before .before .before .before .before .before .before .before .before .before .before .before .before .before .before .before .pre in
     let p = h .4 in
-    (omega arith, le-trans (h .3) (le-of-eq (sym (c .before .before .before .before .before .fill-rivals .kept .0))), p .good-table, p .few-ends, p .end-edges, p .end-targets, p .end-homes, p .node-runs, p .node-stocks)
+    (omega arith, le-trans (h .3) (le-of-eq (sym (c .before .before .before .before .before .fill-rivals .kept .0))), p .good-table, p .few-ends, p .end-edges, p .end-targets, p .end-homes, (search needs), p .node-stocks)
 
 same-length-2 : tie.Need-same-length-2
 same-length-2 c = c .before .before .before .add-destinations2 .kept .0 ∙ c .before .before .before .before .before .before .before .before .before .fill-rivals .kept .0
