@@ -92,14 +92,14 @@ fn worst() -> impl Iterator<Item = (f64, Option<f64>)> {
     })
 }
 
-/// The paper's small event; the second end is taken, and the action finished.
+/// The paper's small event; the first end is taken, and the action finished.
 fn small() -> Result<Point, Refusal> {
     let table = events::small().table;
     let values = list(&[7, 9]);
     let marking = written(|out| keshmirun::start(&table, &values, out))?;
-    let running = written(|out| keshmirun::step(&table, &marking, Terms::new(&[1; 5]), &[1], out))?;
+    let running = written(|out| keshmirun::step(&table, &marking, Terms::new(&[1; 5]), &[0], out))?;
     let name = String::from("small event");
-    Ok(Point { name, values, marking, guards: vec![1; 5], choice: vec![1], node: 5, running, action: 5, results: Vec::new(), table })
+    Ok(Point { name, values, marking, guards: vec![1; 5], choice: vec![0], node: 5, running, action: 5, results: Vec::new(), table })
 }
 
 /// The day when its round is called: the seats are full, two are left over, and both matches begin; then the first of them ends.

@@ -4,7 +4,7 @@
  * A slice is a pointer and a length. An operation reads its inputs, writes its reply to the front of `out`, and keeps nothing; a refused call
  * changes no byte. Inputs and `out` must not overlap. Formats and numbers are those of the paper "Token flow, tables and markings" and, for bounds, of
  * the wish "Guards that read the result"; which ends compete is the paper's with the wish "One round token for all tables"; reasons are those of the wish
- * "Why can't we pair?". */
+ * "Why can't we pair?"; the order of ends is that of the wish "Group the sheet by destination". */
 #ifndef KESHMIRUN_H
 #define KESHMIRUN_H
 
@@ -16,8 +16,8 @@ extern "C" {
 #endif
 
 /* The version of these calls; header and archive must be of the same. 1 had sheet, pick and step without bounds; those forms are gone. 2 had no why; what it
- * had is the same in 3. */
-#define KESHMIRUN_VERSION 3
+ * had is the same in 3. 4 has the calls of 3, but numbers ends by target node first: a choice that was written down with 3 may name other ends. */
+#define KESHMIRUN_VERSION 4
 
 /* Every operation answers one word: refusal * 2^48 + place * 2^32 + length. The refusal is 0 if there is none, and its place and the length are then 0
  * and what was written. */
@@ -52,8 +52,9 @@ uint64_t keshmirun_check(const uint8_t *table, size_t table_len);
 /* Writes the marking with which an activity begins; `values`: per incoming parameter a count and 4-byte values. Refusals 1 to 4, 15 to 17. */
 uint64_t keshmirun_start(const uint8_t *table, size_t table_len, const uint8_t *values, size_t values_len, uint8_t *out, size_t out_len);
 
-/* Writes the sheet of offered ends; `guards`: per edge 1 or 0; `bounds`: length (2 bytes), 1, a count, then per object edge that is listed, rising, its
- * number and the least and the greatest value, 4 bytes each, that may go over it. Refusals 1 to 8, 17, 18 (the bounds list, judged after 7 and before 8). */
+/* Writes the sheet of offered ends, by target node (for a pin the pin's own number), then by last edge, then by paths; `guards`: per edge 1 or 0; `bounds`:
+ * length (2 bytes), 1, a count, then per object edge that is listed, rising, its number and the least and the greatest value, 4 bytes each, that may go over
+ * it. Refusals 1 to 8, 17, 18 (the bounds list, judged after 7 and before 8). */
 uint64_t keshmirun_sheet(const uint8_t *table, size_t table_len, const uint8_t *marking, size_t marking_len, const uint8_t *guards, size_t guards_len,
                          const uint8_t *bounds, size_t bounds_len, uint8_t *out, size_t out_len);
 

@@ -155,8 +155,9 @@ pub fn start(table: &[u8], values: &[u8], out: &mut [u8]) -> Result<usize, Refus
 /// Writes the sheet of offered ends to the front of `out`, and returns its length.
 ///
 /// [`Terms`] say over which edges tokens may go now, and with which values. The sheet is its length (2 bytes), version 1 and the number of ends; then, for each
-/// end in the paper's order, its last edge, 1 or 0 for value or none, four value bytes, the number of its paths, and each path as its length and its edges.
-/// 4,096 bytes hold any sheet. A refused call leaves `out` as it was.
+/// end in order, its last edge, 1 or 0 for value or none, four value bytes, the number of its paths, and each path as its length and its edges. Ends are
+/// ordered by target node, which for a pin is the pin and not its action, then by last edge, then by paths; they are numbered from 0. 4,096 bytes hold any
+/// sheet. A refused call leaves `out` as it was.
 ///
 /// # Errors
 /// In the order in which they are judged: refusals 1 to 4 as for [`check`], 5 (the bytes are no marking of the table), 6 (the activity has ended), 7 (the
@@ -176,13 +177,13 @@ pub fn start(table: &[u8], values: &[u8], out: &mut [u8]) -> Result<usize, Refus
 /// let marking = [0, 15, 1, 0, 2, 0, 0, 0, 7, 0, 0, 0, 9, 0, 0, 0, 1];
 /// let mut out = [0; 4096];
 /// let length = keshmirun::sheet(&table, &marking, Terms::new(&[1; 5]), &mut out).unwrap();
-/// // two ends, on edges 3 and 4, both with value 7; the second needs two paths, since a join brings them together
-/// let ends = [3, 1, 0, 0, 0, 7, 1, 2, 1, 3, 4, 1, 0, 0, 0, 7, 2, 2, 0, 4, 3, 1, 2, 4];
+/// // two ends, the pin's on edge 4 and the buffer's on edge 3, both with value 7; the first needs two paths, since a join brings them together
+/// let ends = [4, 1, 0, 0, 0, 7, 2, 2, 0, 4, 3, 1, 2, 4, 3, 1, 0, 0, 0, 7, 1, 2, 1, 3];
 /// assert_eq!(out[..length], [&[0, 26, 1, 2][..], &ends].concat());
 ///
-/// // edge 3 closed: the second alone is left
+/// // edge 3 closed: the first alone is left
 /// let length = keshmirun::sheet(&table, &marking, Terms::new(&[1, 1, 1, 0, 1]), &mut out).unwrap();
-/// assert_eq!(out[..length], [&[0, 16, 1, 1][..], &ends[10..]].concat());
+/// assert_eq!(out[..length], [&[0, 16, 1, 1][..], &ends[..14]].concat());
 /// ```
 pub fn sheet(table: &[u8], marking: &[u8], terms: Terms, out: &mut [u8]) -> Result<usize, Refusal> {
     let Terms { guards, bounds } = terms;
@@ -232,8 +233,10 @@ pub const NO_NODE: u8 = 255;
 /// assert_eq!(keshmirun::pick(&table, &marking, Terms::new(&[1; 5]), keshmirun::NO_NODE, &mut out), Ok(1));
 /// assert_eq!(out[0], 0);
 ///
-/// // the action gets the value by its pin
+/// // that is the action's, which gets the value by its pin; for the buffer it is the other end
 /// assert_eq!(keshmirun::pick(&table, &marking, Terms::new(&[1; 5]), 5, &mut out), Ok(1));
+/// assert_eq!(out[0], 0);
+/// assert_eq!(keshmirun::pick(&table, &marking, Terms::new(&[1; 5]), 6, &mut out), Ok(1));
 /// assert_eq!(out[0], 1);
 ///
 /// // nothing ends at a decision
@@ -318,8 +321,9 @@ pub fn why(table: &[u8], marking: &[u8], terms: Terms, node: u8) -> Result<Reaso
 /// Writes the marking after a choice of ends is taken to the front of `out`, and returns its length.
 ///
 /// `choice` names ends by their numbers on the [`sheet`] of the same table, marking and terms, in rising order; it may be empty. What its ends were made from
-/// is spent, and then their targets gain in the order of ends. Results of one round may be taken together, and spend its token once: two offers of a join
-/// don't compete for its tokens if "their object offers differ and their control offers are all the same". A refused call leaves `out` as it was.
+/// is spent, and then their targets gain in the order of ends, which at one stock is by last edge, then by paths. Results of one round may be taken together,
+/// and spend its token once: two offers of a join don't compete for its tokens if "their object offers differ and their control offers are all the same". A
+/// refused call leaves `out` as it was.
 ///
 /// # Errors
 /// Refusals 1 to 8 and 18 as for [`sheet`], 9 (the choice is not strictly rising, or names no end), 10 (two of its ends compete; the place is the lowest that
@@ -338,7 +342,7 @@ pub fn why(table: &[u8], marking: &[u8], terms: Terms, node: u8) -> Result<Reaso
 /// ];
 /// let marking = [0, 15, 1, 0, 2, 0, 0, 0, 7, 0, 0, 0, 9, 0, 0, 0, 1];
 /// let mut out = [0; 4096];
-/// let length = keshmirun::step(&table, &marking, Terms::new(&[1; 5]), &[1], &mut out).unwrap();
+/// let length = keshmirun::step(&table, &marking, Terms::new(&[1; 5]), &[0], &mut out).unwrap();
 /// // 7 went to the pin and the initial node's token with it, so the action runs
 /// assert_eq!(out[..length], [0, 15, 1, 0, 1, 0, 0, 0, 9, 1, 0, 0, 0, 7, 1, 0, 0]);
 ///

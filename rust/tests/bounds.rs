@@ -633,7 +633,7 @@ fn before_9_to_13_and_17() {
         assert_order(Operation::Step, &small, 0, choice, ROOM, number, place);
     }
     assert_order(Operation::Step, &forked, 0, &[0], ROOM, 11, 2);
-    assert_order(Operation::Step, &full, 0, &[0], ROOM, 12, 6);
+    assert_order(Operation::Step, &full, 0, &[1], ROOM, 12, 6);
     assert_order(Operation::Pick, &small, 2, &[], ROOM, 13, 2);
     assert_order(Operation::Pick, &small, 254, &[], ROOM, 13, 254);
     assert_order(Operation::Sheet, &small, 0, &[], 27, 17, 0);

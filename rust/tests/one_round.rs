@@ -5,82 +5,11 @@
 mod common;
 
 use common::drawn::*;
+use common::held::AROUND;
 use common::vectors::Operation;
-use common::{has_end_of, picks, rounds, sets, steps};
+use common::{picks, rounds, steps};
 use keshmirun::{bounds_list, NO_BOUNDS, NO_NODE};
-use reading::random::Parts;
 use reading::Answer;
-
-const AROUND: u8 = 0x5a;
-
-/// Last edge, value and paths.
-type End<'a> = (u8, Option<u32>, &'a [&'a [u8]]);
-
-impl Point {
-    /// The reading's answer to this call, to which the engine is held.
-    fn answer(&self, operation: Operation, bounds: &[u8], node: u8, choice: &[u8]) -> Answer {
-        let Point { table, marking, guards } = self;
-        let answer = match operation {
-            Operation::Sheet => reading::sheet_within(table, marking, guards, bounds, ROOM, BUDGET),
-            Operation::Pick => reading::pick_within(table, marking, guards, bounds, node, ROOM, BUDGET),
-            _ => reading::step_within(table, marking, guards, bounds, choice, ROOM, BUDGET),
-        };
-        let answer = answer.expect("a short call");
-        let _ = operation.hold(AROUND, node, self.inputs(bounds, choice), ROOM, &answer);
-        answer
-    }
-
-    fn sheet(&self, bounds: &[u8]) -> Vec<u8> {
-        match self.answer(Operation::Sheet, bounds, 0, &[]) {
-            Answer::Good(sheet) => sheet,
-            refused => panic!("{refused:?}, {self:02x?}, {bounds:02x?}"),
-        }
-    }
-
-    /// The values of the ends.
-    fn values(&self, bounds: &[u8]) -> Vec<u32> {
-        listed(&self.sheet(bounds)).into_iter().filter_map(|(_, value, _)| value).collect()
-    }
-
-    /// The sheet has these ends.
-    fn assert_sheet(&self, ends: &[End]) {
-        let mut body = vec![1, ends.len() as u8];
-        for (edge, value, paths) in ends {
-            body.extend([*edge, u8::from(value.is_some())]);
-            body.extend(value.unwrap_or(0).to_be_bytes());
-            body.push(paths.len() as u8);
-            paths.iter().for_each(|path| body.extend([&[path.len() as u8], *path].concat()));
-        }
-        assert_eq!(self.sheet(&NO_BOUNDS), framed(&body), "{self:02x?}");
-    }
-
-    fn assert_step(&self, choice: &[u8], expected: Answer) {
-        assert_eq!(self.answer(Operation::Step, &NO_BOUNDS, 0, choice), expected, "{choice:?}, {self:02x?}");
-    }
-
-    fn assert_pick(&self, node: u8, expected: Answer) {
-        assert_eq!(self.answer(Operation::Pick, &NO_BOUNDS, node, &[]), expected, "node {node}, {self:02x?}");
-    }
-
-    /// Each of these choices is refused 10, with its place.
-    fn assert_competing(&self, choices: &[(&[u8], u8)]) {
-        choices.iter().for_each(|(choice, place)| self.assert_step(choice, refused(10, *place)));
-    }
-
-    /// Of all sets of ends these are acceptable, first choice first, and no others. Pick takes the first, and for a node the first that has an end of it.
-    fn assert_acceptable(&self, bounds: &[u8], choices: &[&[u8]]) {
-        let parts = Parts::of(&self.table).unwrap();
-        let targets: Vec<u8> = listed(&self.sheet(bounds)).iter().map(|(edge, ..)| parts.edges[usize::from(*edge)][2]).collect();
-        let is_taken = |choice: &Vec<u8>| matches!(self.answer(Operation::Step, bounds, 0, choice), Answer::Good(_));
-        assert_eq!(sets(targets.len()).filter(is_taken).collect::<Vec<_>>(), choices, "{self:02x?}, {bounds:02x?}");
-        for node in (0..=parts.nodes.len() as u8).chain([NO_NODE]) {
-            let named = Some(node).filter(|node| *node != NO_NODE);
-            let first = choices.iter().find(|choice| has_end_of(&parts, &targets, choice, named));
-            let expected = first.map_or(refused(13, node), |choice| Answer::Good(choice.to_vec()));
-            assert_eq!(self.answer(Operation::Pick, bounds, node, &[]), expected, "node {node}, {self:02x?}, {bounds:02x?}");
-        }
-    }
-}
 
 const JOINED: u8 = 0;
 const MERGED: u8 = 1;
@@ -171,7 +100,7 @@ fn three_results_and_one_token() {
     point.assert_step(&[0, 2], round.holding(&[round.held[1], (to, 9), (to, 7)], &[0]));
 }
 
-/// Room for two of three: the first two in the paper's order.
+/// Room for two of three: the first two in the order of ends.
 #[test]
 fn little_room() {
     let some_two: [&[u8]; 7] = [&[0, 1], &[0, 2], &[0], &[1, 2], &[1], &[2], &[]];
@@ -572,7 +501,7 @@ fn closed_guards() {
 
 // ---- sheets
 
-/// Ends, their order, values and paths are those of before: it is not what is offered that has changed, but what goes together.
+/// Ends, values and paths are those of before: it is not what is offered that has changed, but what goes together.
 #[test]
 fn sheets_as_before() {
     let mut forked = twice(Some(FORK));

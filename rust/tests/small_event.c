@@ -4,8 +4,8 @@
 
 #include <string.h>
 
-#if KESHMIRUN_VERSION != 3
-#error "these are the calls of version 3"
+#if KESHMIRUN_VERSION != 4
+#error "these are the calls of version 4"
 #endif
 
 static const uint8_t table[] = {0, 0x33, 1, 7, 5, 1, 255, 0, 0, 6, 255, 0, 4, 8, 255, 0, 0, 11, 255, 0, 0, 3, 5, 1, 1, 2, 255, 0, 0, 5, 255, 0, 2,
@@ -13,14 +13,16 @@ static const uint8_t table[] = {0, 0x33, 1, 7, 5, 1, 255, 0, 0, 6, 255, 0, 4, 8,
 static const uint8_t values[] = {2, 0, 0, 0, 7, 0, 0, 0, 9};
 static const uint8_t guards[] = {1, 1, 1, 1, 1};
 static const uint8_t started[] = {0, 15, 1, 0, 2, 0, 0, 0, 7, 0, 0, 0, 9, 0, 0, 0, 1};
-static const uint8_t ends[] = {0, 26, 1, 2, 3, 1, 0, 0, 0, 7, 1, 2, 1, 3, 4, 1, 0, 0, 0, 7, 2, 2, 0, 4, 3, 1, 2, 4};
+/* by target: the end on edge 4, to the pin, node 4, and then the one on edge 3, to the buffer, node 6 */
+static const uint8_t ends[] = {0, 26, 1, 2, 4, 1, 0, 0, 0, 7, 2, 2, 0, 4, 3, 1, 2, 4, 3, 1, 0, 0, 0, 7, 1, 2, 1, 3};
 static const uint8_t stepped[] = {0, 15, 1, 0, 1, 0, 0, 0, 9, 1, 0, 0, 0, 7, 1, 0, 0};
 static const uint8_t finished[] = {0, 11, 1, 0, 1, 0, 0, 0, 9, 0, 0, 0, 0};
-static const uint8_t second_end[] = {1};
-/* edge 3, to the buffer, is for 8 and 9, which bars 7: the end on edge 4 is left, and it is the first */
-static const uint8_t from_8_to_9[] = {0, 11, 1, 1, 3, 0, 0, 0, 8, 0, 0, 0, 9};
-static const uint8_t ends_left[] = {0, 16, 1, 1, 4, 1, 0, 0, 0, 7, 2, 2, 0, 4, 3, 1, 2, 4};
 static const uint8_t first_end[] = {0};
+static const uint8_t second_end[] = {1};
+/* edge 4, to the pin, is for 8 and 9, which bars 7: the end on edge 3 is left, and it is the first */
+static const uint8_t from_8_to_9[] = {0, 11, 1, 1, 4, 0, 0, 0, 8, 0, 0, 0, 9};
+static const uint8_t ends_left[] = {0, 12, 1, 1, 3, 1, 0, 0, 0, 7, 1, 2, 1, 3};
+static const uint8_t stepped_to_buffer[] = {0, 15, 1, 0, 1, 0, 0, 0, 9, 0, 0, 1, 0, 0, 0, 7, 1};
 static const uint8_t on_a_control_edge[] = {0, 11, 1, 1, 0, 0, 0, 0, 8, 0, 0, 0, 9};
 /* the buffer holds two, which is all that it may */
 static const uint8_t full[] = {0, 23, 1, 0, 2, 0, 0, 0, 7, 0, 0, 0, 9, 0, 0, 2, 0, 0, 0, 1, 0, 0, 0, 2, 1};
@@ -48,7 +50,8 @@ int main(void) {
     HOLDS(refused(keshmirun_check(table, sizeof table - 1), 1, 0));
     HOLDS(wrote(keshmirun_start(table, sizeof table, values, sizeof values, out, sizeof out), started, sizeof started));
     HOLDS(wrote(keshmirun_sheet(EVENT(started), UNDER(keshmirun_no_bounds), out, sizeof out), ends, sizeof ends));
-    HOLDS(wrote(keshmirun_pick(EVENT(started), UNDER(keshmirun_no_bounds), 5, out, KESHMIRUN_MOST_ENDS), second_end, sizeof second_end));
+    HOLDS(wrote(keshmirun_pick(EVENT(started), UNDER(keshmirun_no_bounds), 5, out, KESHMIRUN_MOST_ENDS), first_end, sizeof first_end));
+    HOLDS(wrote(keshmirun_pick(EVENT(started), UNDER(keshmirun_no_bounds), 6, out, KESHMIRUN_MOST_ENDS), second_end, sizeof second_end));
     HOLDS(refused(keshmirun_pick(EVENT(started), UNDER(keshmirun_no_bounds), 2, out, KESHMIRUN_MOST_ENDS), 13, 2));
     HOLDS(wrote(keshmirun_pick(EVENT(started), UNDER(keshmirun_no_bounds), KESHMIRUN_NO_NODE, out, KESHMIRUN_MOST_ENDS), first_end, sizeof first_end));
     HOLDS(reason(keshmirun_why(EVENT(started), UNDER(keshmirun_no_bounds), 5, out, sizeof out), KESHMIRUN_WHY_ACCEPTABLE));
@@ -56,12 +59,12 @@ int main(void) {
     HOLDS(reason(keshmirun_why(EVENT(full), UNDER(keshmirun_no_bounds), 6, out, 1), KESHMIRUN_WHY_OWN_DESTINATION));
     HOLDS(reason(keshmirun_why(EVENT(full), UNDER(keshmirun_no_bounds), KESHMIRUN_NO_NODE, out, 1), KESHMIRUN_WHY_ACCEPTABLE));
     HOLDS(refused(keshmirun_why(EVENT(started), UNDER(keshmirun_no_bounds), 5, out, 0), 17, 0));
-    HOLDS(wrote(keshmirun_step(EVENT(started), UNDER(keshmirun_no_bounds), second_end, sizeof second_end, out, sizeof out), stepped, sizeof stepped));
+    HOLDS(wrote(keshmirun_step(EVENT(started), UNDER(keshmirun_no_bounds), first_end, sizeof first_end, out, sizeof out), stepped, sizeof stepped));
     HOLDS(wrote(keshmirun_sheet(EVENT(started), UNDER(from_8_to_9), out, sizeof out), ends_left, sizeof ends_left));
-    HOLDS(wrote(keshmirun_pick(EVENT(started), UNDER(from_8_to_9), 5, out, KESHMIRUN_MOST_ENDS), first_end, sizeof first_end));
-    HOLDS(refused(keshmirun_pick(EVENT(started), UNDER(from_8_to_9), 6, out, KESHMIRUN_MOST_ENDS), 13, 6));
-    HOLDS(reason(keshmirun_why(EVENT(started), UNDER(from_8_to_9), 6, out, 1), KESHMIRUN_WHY_NO_END));
-    HOLDS(wrote(keshmirun_step(EVENT(started), UNDER(from_8_to_9), first_end, sizeof first_end, out, sizeof out), stepped, sizeof stepped));
+    HOLDS(wrote(keshmirun_pick(EVENT(started), UNDER(from_8_to_9), 6, out, KESHMIRUN_MOST_ENDS), first_end, sizeof first_end));
+    HOLDS(refused(keshmirun_pick(EVENT(started), UNDER(from_8_to_9), 5, out, KESHMIRUN_MOST_ENDS), 13, 5));
+    HOLDS(reason(keshmirun_why(EVENT(started), UNDER(from_8_to_9), 5, out, 1), KESHMIRUN_WHY_NO_END));
+    HOLDS(wrote(keshmirun_step(EVENT(started), UNDER(from_8_to_9), first_end, sizeof first_end, out, sizeof out), stepped_to_buffer, sizeof stepped_to_buffer));
     HOLDS(refused(keshmirun_step(EVENT(started), UNDER(from_8_to_9), second_end, sizeof second_end, out, sizeof out), 9, 0));
     HOLDS(refused(keshmirun_sheet(EVENT(started), UNDER(on_a_control_edge), out, sizeof out), 18, 0));
     HOLDS(refused(keshmirun_pick(EVENT(started), guards, sizeof guards, from_8_to_9, sizeof from_8_to_9 - 1, 5, out, KESHMIRUN_MOST_ENDS), 18, 0));

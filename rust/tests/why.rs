@@ -6,6 +6,7 @@
 mod common;
 
 use common::drawn::*;
+use common::held::AROUND;
 use common::points::{self, Walk};
 use common::second::Second;
 use common::vectors::{all, Call, Operation};
@@ -15,8 +16,6 @@ use keshmirun::{bounds_list, Terms, NO_BOUNDS, NO_NODE};
 use reading::random::Event;
 use reading::{Answer, Board};
 use std::collections::BTreeSet;
-
-const AROUND: u8 = 0x5a;
 
 impl Point {
     /// These are the reasons for these nodes. No end belongs to any other, nor to a number that is no node, and 255 names none.
@@ -44,33 +43,6 @@ impl Point {
         let terms = Terms::new(guards).with_bounds(bounds);
         assert_eq!(keshmirun::why(table, marking, terms, node), Ok(reason));
         assert_eq!(whys::is_without_pick(table, marking, terms, node), reason != Acceptable, "node {node}, {self:02x?}");
-    }
-}
-
-impl Drawing {
-    /// A match: its action, and a pin for each seat with the fewest and the most players that it takes.
-    fn game<const SEATS: usize>(&mut self, seats: [(u8, u8); SEATS]) -> (u8, [u8; SEATS]) {
-        let action = self.node(ACTION, 0);
-        (action, seats.map(|(lower, upper)| self.parts.add_pin(INPUT_PIN, action, lower, upper)))
-    }
-
-    /// A queue in which these players wait, the first of them in front.
-    fn queue(&mut self, players: &[u32]) -> u8 {
-        let queue = self.node(BUFFER, 4);
-        self.held.extend(players.iter().map(|player| (queue, *player)));
-        queue
-    }
-
-    /// A list of one name, which is there already.
-    fn full_list(&mut self) -> u8 {
-        let list = self.node(BUFFER, 1);
-        self.held.push((list, 1));
-        list
-    }
-
-    /// With so many tokens on each edge of an initial node.
-    fn with_tokens(&self, tokens: &[u8]) -> Point {
-        Point { marking: marking(&self.parts, &self.held, tokens), ..self.point() }
     }
 }
 
@@ -483,7 +455,7 @@ fn at_every_outside_board() {
 #[test]
 fn whole_events() {
     let mut walk = Walk::default();
-    let tally = whys::tally(81, 40_000, |rng| walk.next(rng));
+    let tally = whys::tally(119, 40_000, |rng| walk.next(rng));
     tally.seen.assert_each(30, &[0, 1, 2, 3, 4, 5, 6, 7, 8, 17]);
     tally.seen.assert_each(250, &[18]);
     whys::assert_least(tally.reasons, [1_400, 15_000, 900, 3, 50, 45]);

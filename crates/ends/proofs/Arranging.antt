@@ -12,6 +12,7 @@ use Rattle.paper.specs.Offers.{Offer, first, paths, sortedPaths, offers}
 use Rattle.paper.proofs.Ends.{ends-length}
 use Rattle.paper.proofs.Lengths.{length-each}
 use Rattle.rows.specs.Sets.{nth}
+use Rattle.rows.specs.Rows.{Ranges}
 use Rattle.flow.specs.Stages.{Gates, onEdge}
 use Rattle.paths.specs.Blocks.{Fit, pathIn, byPath, pathsOf}
 use Rattle.paths.proofs.Walks.{length-run}
@@ -20,6 +21,7 @@ use Rattle.paths.proofs.Slots.{paths-few, paths-over, paths-under, traced-fit}
 use Rattle.ends.specs.Ends.{Readable, Stored, Told}
 use Rattle.ends.specs.declared.EndsAnswer.the-variants.{Good, Refused}
 use Rattle.ends.specs.Slots.{byEnd, listOf, endRows}
+use Rattle.ends.proofs.Found.{keyed-inside}
 use Rattle.ends.proofs.Sorts.{run-entry, run-part}
 use Rattle.ends.proofs.Meaning.{Done, rows-are-ends, slot-found, paths-number, list-is, slots-are}
 
@@ -34,9 +36,9 @@ pub record Laid (found sorted slots rows order : List ℕ) (n : ℕ) : Type 0 wh
   pub rows-laid : (k : ℕ) → k < n → at rows k ≡ at found (at slots k)
   pub blocks-laid : (x : ℕ) → x < 8 * n → at order x ≡ at sorted (8 * at slots (x / 8) + x % 8)
 
-module _ {t a b last many before found sorted slots lens cells rows order : List ℕ} {n : ℕ} (d : Done t a b last many before found sorted slots lens cells n) (l : Laid found sorted slots rows order n) where
+module _ {t a b last many before found keys sorted slots lens cells rows order : List ℕ} {n : ℕ} (d : Done t a b last many before found keys sorted slots lens cells n) (l : Laid found sorted slots rows order n) where
   slot-inside : (k : ℕ) → k < n → at slots k < n
-  slot-inside k h = in-order-inside (byEnd last many found sorted lens cells) slots 0 n (d .ordered .ends-sorted) k (omega arith) h .1
+  slot-inside k h = in-order-inside (byEnd keys many found sorted lens cells) slots 0 n (d .ordered .ends-sorted) k (omega arith) h .1
 
   block-laid : (k j : ℕ) → k < n → j < 8 → at order (8 * k + j) ≡ at sorted (8 * at slots k + j)
   block-laid k j h u =
@@ -52,10 +54,10 @@ module _ {t a b last many before found sorted slots lens cells rows order : List
       let q = in-order-inside (byPath lens cells) sorted (8 * s) (8 * s + pathsOf many found s) (d .ordered .paths-sorted s ls) (8 * s + j) (omega arith) (omega arith) in
       subst (Fit lens) (sym (block-laid k j h (omega arith))) (traced-fit last many before found (d .few) (d .ordered .traced) s ls (at sorted (8 * s + j)) (q .0) (q .1))
 
-  pub readable : ((s : ℕ) → s < n → at found s < 64) → Readable many rows order lens n
-  readable rows-are = record {
+  pub readable : Ranges a b 64 → Readable many rows order lens n
+  readable inside = record {
     few = d .few;
-    rows-there = λ k h. rw (l .rows-laid k h) (rows-are (at slots k) (slot-inside k h));
+    rows-there = λ k h. rw (l .rows-laid k h) (keyed-inside inside (d .keyed (at slots k) (slot-inside k h)));
     blocks-there = λ k h j u v. block-fit k j h (both k j u (subst (λ z. j < at many z) (l .rows-laid k h) v));
   }
     where

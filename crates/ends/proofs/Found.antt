@@ -1,52 +1,98 @@
--- The rows that are ends, gathered edge by edge: what a loop has of them, and the offers that they are. Assumes nothing.
+-- The rows that are ends, gathered edge by edge, each with its edge's key. Assumes nothing.
 use mathlib.Core.Path.{_≡_, refl, sym, ap, ap₂, _∙_, subst}
-use mathlib.Core.List.{List, [], _∷_, _++_, append-assoc, append-nil}
-use mathlib.Core.Bool.{Bool, true, false, cond}
-use Prim.Native.Nat.{ℕ, zero, suc, _+_, _-_, _≤_, _<_}
+use mathlib.Core.List.{List, [], _∷_, _++_, append-nil}
+use mathlib.Core.Bool.{true, false, cond}
+use Prim.Native.Nat.{ℕ, zero, suc, _+_, _*_, _-_, _≤_, _<_}
 use native.Mathlib.Omega.{arith}
+use native.Mathlib.Decide.{decLt}
 use lib.ListN.{length, set, length-append}
 use lib.Seq.{getD-set-same, getD-set-other}
 use Rattle.paper.specs.Lists.{at, from, below, gather}
 use Rattle.paper.specs.Table.{edges, kind, target, isControlNode}
 use Rattle.paper.proofs.Lists.{below-more, below-split}
 use Rattle.paper.proofs.Lengths.{length-from, gather-append}
-use Rattle.paper.proofs.Members.{In, in-none, in-gather}
 use Rattle.rows.specs.Rows.{Ranges}
 use Rattle.rows.proofs.Segments.{gather-snoc}
 use Rattle.paths.specs.Blocks.{run}
 use Rattle.paths.proofs.Runs.{run-split, run-same}
 use Rattle.paths.proofs.Walks.{length-run}
-use Rattle.paths.proofs.Insertion.{run-in, in-from}
-use Rattle.ends.specs.Slots.{endsOn, endRows}
+use Rattle.ends.specs.Slots.{endsOn, endRows, keyOf, Added, Keyed}
 
--- ---- one row more
-from-more : (a n : ℕ) → from a (n + 1) ≡ from a n ++ ((a + n) ∷ [])
-from-more a zero = ap (λ z. z ∷ []) (let e : a ≡ a + 0 = omega arith in e)
-from-more a (suc n) = rw (let e : suc n + 1 ≡ suc (n + 1) = omega arith in e) (ap (λ z. a ∷ z) (from-more (suc a) n ∙ ap (λ z. from (suc a) n ++ (z ∷ [])) (let e : suc a + n ≡ a + suc n = omega arith in e)))
+-- ---- rows added
+-- one cell more behind the first n
+put-kept : (l : List ℕ) (n k v s : ℕ) → s < n → at (set l (n + k) v) s ≡ at l s
+put-kept l n k v s h = getD-set-other l (n + k) s v 0 (omega arith)
 
-stored : (found : List ℕ) (m v : ℕ) → m < length found → run (at (set found m v)) 0 (m + 1) ≡ run (at found) 0 m ++ (v ∷ [])
-stored found m v l =
-    run-split (at (set found m v)) 0 m 1
-    ∙ ap₂ (λ a b. a ++ (b ∷ [])) (run-same (at (set found m v)) (at found) 0 m (λ j a b. getD-set-other found m j v 0 (omega arith)))
-    (ap (at (set found m v)) (let e : 0 + m ≡ m = omega arith in e) ∙ getD-set-same found m v 0 l)
+put-more : (f : ℕ → ℕ) (l : List ℕ) (n k v : ℕ) → n + k < length l → v ≡ f k → ((i : ℕ) → i < k → at l (n + i) ≡ f i) → (i : ℕ) → i < k + 1 → at (set l (n + k) v) (n + i) ≡ f i
+put-more f l n k v room is h i less = elim (decLt i k) [
+  | yes w ↦ getD-set-other l (n + k) (n + i) v 0 (omega arith) ∙ h i w
+  | no w ↦ let e : i ≡ k = omega arith in subst (λ z. at (set l (n + k) v) (n + z) ≡ f z) (sym e) (getD-set-same l (n + k) v 0 room ∙ is)
+]
 
-module _ (old found : List ℕ) (n a i : ℕ) where
-  -- the rows from a to i stand behind the first n
-  abbrev pub Added : Type 0
-  Added = run (at found) 0 (n + (i - a)) ≡ run (at old) 0 n ++ from a (i - a)
+pub added-none : (old oldKeys : List ℕ) (n a key : ℕ) → Added old old oldKeys oldKeys n a (a - a) key
+added-none old oldKeys n a key = record {
+  rows-kept = λ s h. refl;
+  rows-added = λ i h. absurd (omega arith);
+  keys-kept = λ s h. refl;
+  keys-added = λ i h. absurd (omega arith);
+}
 
-pub added-none : (old : List ℕ) (n a : ℕ) → Added old old n a a
-added-none old n a =
-    ap (run (at old) 0) (let e : n + (a - a) ≡ n = omega arith in e) ∙ sym (append-nil (run (at old) 0 n)) ∙ ap (λ z. run (at old) 0 n ++ from a z) (let e : 0 ≡ a - a = omega arith in e)
+pub added-more : (old found oldKeys keys : List ℕ) (n a i key : ℕ) → a ≤ i → n + (i - a) < length found → n + (i - a) < length keys → Added old found oldKeys keys n a (i - a) key
+    → Added old (set found (n + (i - a)) i) oldKeys (set keys (n + (i - a)) key) n a (i + 1 - a) key
+added-more old found oldKeys keys n a i key l room roomKeys g =
+    let e : i - a + 1 ≡ i + 1 - a = omega arith in
+    subst (λ z. Added old (set found (n + (i - a)) i) oldKeys (set keys (n + (i - a)) key) n a z key) e (record {
+      rows-kept = λ s h. put-kept found n (i - a) i s h ∙ g .rows-kept s h;
+      rows-added = put-more (λ j. a + j) found n (i - a) i room (omega arith) (g .rows-added);
+      keys-kept = λ s h. put-kept keys n (i - a) key s h ∙ g .keys-kept s h;
+      keys-added = put-more (λ j. key) keys n (i - a) key roomKeys refl (g .keys-added);
+    })
 
-pub added-more : (old found : List ℕ) (n a i : ℕ) → a ≤ i → n + (i - a) < length found → Added old found n a i → Added old (set found (n + (i - a)) i) n a (i + 1)
-added-more old found n a i l room g =
-    ap (run (at (set found (n + (i - a)) i)) 0) (let e : n + (i + 1 - a) ≡ n + (i - a) + 1 = omega arith in e)
-    ∙ stored found (n + (i - a)) i room
-    ∙ ap (λ z. z ++ (i ∷ [])) g
-    ∙ append-assoc (run (at old) 0 n) (from a (i - a)) (i ∷ [])
-    ∙ ap (λ z. run (at old) 0 n ++ z)
-    (ap (λ z. from a (i - a) ++ (z ∷ [])) (let e : i ≡ a + (i - a) = omega arith in e) ∙ sym (from-more a (i - a)) ∙ ap (from a) (let e : i - a + 1 ≡ i + 1 - a = omega arith in e))
+run-from : (f : ℕ → ℕ) (lo a m : ℕ) → ((i : ℕ) → i < m → f (lo + i) ≡ a + i) → run f lo m ≡ from a m
+run-from f lo a zero h = refl
+run-from f lo a (suc m) h =
+    ap₂ (λ z zs. z ∷ zs) (ap f (let e : lo ≡ lo + 0 = omega arith in e) ∙ h 0 (omega arith) ∙ (let e : a + 0 ≡ a = omega arith in e))
+    (run-from f (suc lo) (suc a) m (λ i l. ap f (let e : suc lo + i ≡ lo + suc i = omega arith in e) ∙ h (suc i) (omega arith) ∙ (let e : a + suc i ≡ suc a + i = omega arith in e)))
+
+module _ {old found oldKeys keys : List ℕ} {n a m key : ℕ} (g : Added old found oldKeys keys n a m key) where
+  added-run : run (at found) 0 (n + m) ≡ run (at old) 0 n ++ from a m
+  added-run =
+      run-split (at found) 0 n m
+      ∙ ap₂ (λ x y. x ++ y) (run-same (at found) (at old) 0 n (λ j u v. g .rows-kept j (omega arith)))
+      (run-from (at found) (0 + n) a m (λ i l. ap (at found) (let e : 0 + n + i ≡ n + i = omega arith in e) ∙ g .rows-added i l))
+
+  -- the slots of the rows added have the key
+  pub keyed-more : {t c d : List ℕ} (e : ℕ) → e < edges t → e < 256 → a ≡ at c e → a + m ≡ at d e → key ≡ keyOf t e
+      → ((s : ℕ) → s < n → Keyed t c d old oldKeys s) → (s : ℕ) → s < n + m → Keyed t c d found keys s
+  keyed-more e l byte p q r h s u = elim (decLt s n) [
+    | yes w ↦ let k = h s w in record {
+      edge = k .edge;
+      is-edge = k .is-edge;
+      is-byte = k .is-byte;
+      from-a = omega (arith, g .rows-kept s w, k .from-a);
+      to-b = omega (arith, g .rows-kept s w, k .to-b);
+      key = g .keys-kept s w ∙ k .key;
+    }
+    | no w ↦
+        let z : n + (s - n) ≡ s = omega arith in
+        let row : at found s ≡ a + (s - n) = ap (at found) (sym z) ∙ g .rows-added (s - n) (omega arith) in
+        record {
+          edge = e;
+          is-edge = l;
+          is-byte = byte;
+          from-a = omega arith;
+          to-b = omega arith;
+          key = ap (at keys) (sym z) ∙ g .keys-added (s - n) (omega arith) ∙ r;
+        }
+  ]
+
+pub key-is : (t : List ℕ) (node e : ℕ) → node ≡ target t e → 256 * node + e ≡ keyOf t e
+unfolding keyOf
+key-is t node e h = ap (λ z. 256 * z + e) h
+
+-- and they are within the list
+pub keyed-inside : {t a b found keys : List ℕ} {s c : ℕ} → Ranges a b c → Keyed t a b found keys s → at found s < c
+keyed-inside h k = omega (arith, h (k .edge) .1, k .to-b)
 
 -- ---- edge by edge
 module _ (t a b : List ℕ) where
@@ -69,24 +115,13 @@ module _ (t a b : List ℕ) where
     rows-skip h = g ∙ sym (rows-snoc e ∙ ap (λ z. endRows t a b e ++ cond z [] (from (at a e) (at b e - at a e))) h ∙ append-nil (endRows t a b e))
 
     module _ (h : isControlNode (kind t (target t e)) ≡ false) where
-      pub rows-more : (found′ : List ℕ) (x y : ℕ) → x ≡ at a e → y ≡ at b e → run (at found′) 0 (n + (y - x)) ≡ run (at found) 0 n ++ from x (y - x)
+      pub rows-more : {found′ oldKeys keys : List ℕ} {x y key : ℕ} → x ≡ at a e → y ≡ at b e → Added found found′ oldKeys keys n x (y - x) key
           → run (at found′) 0 (n + (y - x)) ≡ endRows t a b (e + 1)
-      rows-more found′ x y p q r =
-          r
+      rows-more {x = x} {y = y} p q r =
+          added-run r
           ∙ ap₂ (λ u v. u ++ v) g (ap₂ (λ u v. from u (v - u)) p q)
           ∙ sym (rows-snoc e ∙ ap (λ z. endRows t a b e ++ cond z [] (from (at a e) (at b e - at a e))) h)
 
       pub rows-many : (m : ℕ) → e < m → 20 < n + (at b e - at a e) → 20 < length (endRows t a b m)
       rows-many m l k =
           omega (arith, rows-longer e m l, ap length g, length-run (at found) 0 n, ap (λ z. length (cond z [] (from (at a e) (at b e - at a e)))) h, length-from (at a e) (at b e - at a e))
-
-  -- they are within the list
-  pub rows-inside : (found : List ℕ) (n c : ℕ) → run (at found) 0 n ≡ endRows t a b (edges t) → Ranges a b c → (s : ℕ) → s < n → at found s < c
-  unfolding endRows
-  rows-inside found n c g h s l =
-      let q = in-gather (endsOn t a b) (below (edges t)) (subst (In (at found s)) g (run-in (at found) 0 n s (omega arith) (omega arith))) in
-      by (q .0) (isControlNode (kind t (target t (q .0)))) (q .2)
-    where
-      by : (e : ℕ) (k : Bool) → In (at found s) (cond k [] (from (at a e) (at b e - at a e))) → at found s < c
-      by e true m = absurd (in-none m)
-      by e false m = let w = in-from (at a e) (at b e - at a e) m in omega (arith, h e .0, h e .1)

@@ -10,8 +10,8 @@ use Rattle.paper.specs.Lists.{at, from, below, each, keep, gather}
 use Rattle.paper.specs.Limits.{limits}
 use Rattle.paper.specs.Table.{edges, kind, target, isControlNode}
 use Rattle.paper.specs.Marking.{Marking}
-use Rattle.paper.specs.Offers.{Offer, first, lastEdge, paths, offers, isEnd, thenBy, lex, sort, sortedPaths, endOrder, ends}
-use Rattle.paper.proofs.Members.{In, here, later, in-none, in-gather, in-below, keep-none}
+use Rattle.paper.specs.Offers.{Offer, first, lastEdge, paths, offers, isEnd, targetOf, thenBy, lex, sort, sortedPaths, endOrder, ends}
+use Rattle.paper.proofs.Members.{In, here, later, in-below, keep-none, entry-in}
 use Rattle.paper.proofs.Sameness.{on-last}
 use Rattle.paper.proofs.Fuel.{path-short}
 use Rattle.paper.proofs.Lists.{keep-append}
@@ -20,16 +20,18 @@ use Rattle.rows.specs.Rows.{Rows, Row}
 use Rattle.flow.specs.Stages.{Gates, onEdge, Whole}
 use Rattle.rows.proofs.Segments.{each-append, seg-nth, seg-len}
 use Rattle.paths.specs.Blocks.{Seen, run, pathIn, byPath, Tame, Back, pathsOf}
-use Rattle.paths.proofs.Insertion.{run-in, in-from}
+use Rattle.paths.proofs.Insertion.{run-in}
 use Rattle.paths.proofs.Slots.{paths-under}
-use Rattle.ends.specs.Slots.{listOf, byEnd, Ordered, endsOn, endRows}
-use Rattle.ends.proofs.Sorts.{each-each, keep-all, entry-in, run-list, sort-each}
+use Rattle.ends.specs.Slots.{listOf, byEnd, Ordered, endsOn, endRows, keyOf, Keyed}
+use Rattle.ends.proofs.Order.{pair-compared, then-assoc}
+use Rattle.ends.proofs.Sorts.{each-each, keep-all, run-list, sort-each}
 
 -- the n rows that are ends are found, and in order
-pub record Done (t a b last many before found sorted slots lens cells : List ℕ) (n : ℕ) : Type 0 where
+pub record Done (t a b last many before found keys sorted slots lens cells : List ℕ) (n : ℕ) : Type 0 where
   pub few : n ≤ 20
   pub is-found : run (at found) 0 n ≡ endRows t a b (edges t)
-  pub ordered : Ordered last many before found sorted slots lens cells n
+  pub keyed : (s : ℕ) → s < n → Keyed t a b found keys s
+  pub ordered : Ordered last many before found keys sorted slots lens cells n
 
 module _ {t : List ℕ} {m : Marking} {goes : Gates} {r : Rows} {a b : List ℕ} (y : Whole t m goes r a b) where
   abbrev on : ℕ → List Offer
@@ -71,26 +73,20 @@ module _ {t : List ℕ} {m : Marking} {goes : Gates} {r : Rows} {a b : List ℕ}
   unfolding endRows offers
   rows-are-ends = sym (all-ends (below (edges t)) (λ e k. in-below (edges t) k))
 
-  -- each is a row of the list, with an offer of its edge
+  -- a slot's row has an offer of its edge
+  offer-on : {found keys : List ℕ} {s : ℕ} (k : Keyed t a b found keys s) → In (nth trees (at found s)) (on (k .edge))
+  offer-on {found = found} {s = s} k =
+      subst (In (nth trees (at found s))) (edge-rows (k .edge) (k .is-edge))
+      (run-in (nth trees) (at a (k .edge)) (at b (k .edge) - at a (k .edge)) (at found s) (k .from-a) (omega (arith, k .from-a, k .to-b)))
+
+  -- and is a row of the list
   pub record Found (i : ℕ) : Type 0 where
     pub edge : ℕ
     pub inside : i < length trees
     pub offer : In (nth trees i) (on edge)
 
-  pub row-found : (i : ℕ) → In i (endRows t a b (edges t)) → Found i
-  unfolding endRows
-  row-found i k = let q = in-gather (endsOn t a b) (below (edges t)) k in by (q .0) (in-below (edges t) (q .1)) (isControlNode (kind t (target t (q .0)))) (q .2)
-    where
-      by : (e : ℕ) → e < edges t → (c : Bool) → In i (cond c [] (from (at a e) (at b e - at a e))) → Found i
-      by e l true h = absurd (in-none h)
-      by e l false h =
-          let w = in-from (at a e) (at b e - at a e) h in
-          let s = y .segs e l in
-          record {
-            edge = e;
-            inside = omega (arith, seg-len s);
-            offer = subst (In (nth trees i)) (edge-rows e l) (run-in (nth trees) (at a e) (at b e - at a e) i (w .0) (w .1));
-          }
+  row-found : {found keys : List ℕ} {s : ℕ} → Keyed t a b found keys s → Found (at found s)
+  row-found k = record { edge = k .edge; inside = omega (arith, seg-len (y .segs (k .edge) (k .is-edge)), k .from-a, k .to-b); offer = offer-on k }
 
   -- ---- the paths of a slot
   module _ {last many before : List ℕ} (seen : Seen r last many before) where
@@ -119,13 +115,17 @@ module _ {t : List ℕ} {m : Marking} {goes : Gates} {r : Rows} {a b : List ℕ}
       fits = path-short t goes m (limits .longestPath) (f .edge) (f .offer) (entry-in [] (paths (nth trees i)) k l);
     }
 
-    module _ {found sorted slots lens cells : List ℕ} {n : ℕ} (d : Done t a b last many before found sorted slots lens cells n) where
+    module _ {found keys sorted slots lens cells : List ℕ} {n : ℕ} (d : Done t a b last many before found keys sorted slots lens cells n) where
       -- the offer in a slot
       abbrev offer : ℕ → Offer
       offer s = nth trees (at found s)
 
       pub slot-found : (s : ℕ) → s < n → Found (at found s)
-      slot-found s l = row-found (at found s) (subst (In (at found s)) (d .is-found) (run-in (at found) 0 n s (omega arith) (omega arith)))
+      slot-found s l = row-found (d .keyed s l)
+
+      -- its last edge
+      edge-is : (s : ℕ) (l : s < n) → lastEdge (offer s) ≡ d .keyed s l .edge
+      edge-is s l = on-last t goes m (limits .longestPath) (d .keyed s l .edge) (offer-on (d .keyed s l))
 
       pub paths-number : (s : ℕ) → s < n → pathsOf many found s ≡ length (paths (offer s))
       paths-number s l =
@@ -157,11 +157,22 @@ module _ {t : List ℕ} {m : Marking} {goes : Gates} {r : Rows} {a b : List ℕ}
           ∙ sort-each (pathIn lens cells) (byPath lens cells) (lex compare) (from (8 * s) w) (λ p q u v. refl)
           ∙ ap (sort (lex compare)) (ap (run (pathIn lens cells) (8 * s)) (paths-number s l) ∙ run-list [] (pathIn lens cells) (8 * s) (paths (offer s)) (block-is s l))
 
-      order-is : (s u : ℕ) → s < n → u < n → byEnd last many found sorted lens cells s u ≡ endOrder t (offer s) (offer u)
+      -- the keys say which target node comes first, and of one target node which edge
+      keys-say : (s u : ℕ) → s < n → u < n
+          → compare (at keys s) (at keys u) ≡ thenBy (compare (targetOf t (offer s)) (targetOf t (offer u))) (compare (lastEdge (offer s)) (lastEdge (offer u)))
+      unfolding keyOf
+      keys-say s u ls lu =
+          let p = d .keyed s ls in
+          let q = d .keyed u lu in
+          ap₂ compare (p .key) (q .key)
+          ∙ pair-compared (target t (p .edge)) (target t (q .edge)) (p .edge) (q .edge) (p .is-byte) (q .is-byte)
+          ∙ sym (ap₂ (λ e f. thenBy (compare (target t e) (target t f)) (compare e f)) (edge-is s ls) (edge-is u lu))
+
+      order-is : (s u : ℕ) → s < n → u < n → byEnd keys many found sorted lens cells s u ≡ endOrder t (offer s) (offer u)
       unfolding byEnd endOrder
       order-is s u ls lu =
-          ap₂ thenBy (ap₂ compare (last-is (at found s) (slot-found s ls .inside)) (last-is (at found u) (slot-found u lu .inside)))
-          (ap₂ (lex (lex compare)) (list-is s ls) (list-is u lu))
+          ap₂ thenBy (keys-say s u ls lu) (ap₂ (lex (lex compare)) (list-is s ls) (list-is u lu))
+          ∙ then-assoc (compare (targetOf t (offer s)) (targetOf t (offer u))) _ _
 
       -- the slots in order are the ends
       pub slots-are : run (λ k. offer (at slots k)) 0 n ≡ ends t (offers t goes m)
@@ -169,6 +180,6 @@ module _ {t : List ℕ} {m : Marking} {goes : Gates} {r : Rows} {a b : List ℕ}
       slots-are =
           let z : n - 0 ≡ n = omega arith in
           sym (each-each offer (at slots) (from 0 n))
-          ∙ ap (each offer) (subst (λ v. run (at slots) 0 v ≡ sort (byEnd last many found sorted lens cells) (from 0 v)) z (d .ordered .ends-sorted))
-          ∙ sort-each offer (byEnd last many found sorted lens cells) (endOrder t) (from 0 n) (λ s u ks ku. order-is s u (in-below n ks) (in-below n ku))
+          ∙ ap (each offer) (subst (λ v. run (at slots) 0 v ≡ sort (byEnd keys many found sorted lens cells) (from 0 v)) z (d .ordered .ends-sorted))
+          ∙ sort-each offer (byEnd keys many found sorted lens cells) (endOrder t) (from 0 n) (λ s u ks ku. order-is s u (in-below n ks) (in-below n ku))
           ∙ ap (sort (endOrder t)) (sym (each-each (nth trees) (at found) (from 0 n)) ∙ ap (each (nth trees)) (d .is-found) ∙ rows-are-ends)

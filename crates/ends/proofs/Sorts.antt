@@ -21,11 +21,6 @@ pub keep-all : {A : Type 0} (p : A → Bool) (xs : List A) → ((x : A) → In x
 keep-all p [] h = refl
 keep-all p (x ∷ xs) h = rw (h x (here refl)) (ap (λ z. x ∷ z) (keep-all p xs (λ y m. h y (later m))))
 
-pub entry-in : {A : Type 0} (d : A) (xs : List A) (k : ℕ) → k < length xs → In (getD xs k d) xs
-entry-in d [] k l = absurd (omega arith)
-entry-in d (x ∷ xs) zero l = here refl
-entry-in d (x ∷ xs) (suc k) l = later (entry-in d xs k (omega arith))
-
 -- a run of the entries of a list
 pub run-list : {A : Type 0} (d : A) (f : ℕ → A) (lo : ℕ) (xs : List A) → ((j : ℕ) → j < length xs → f (lo + j) ≡ getD xs j d) → run f lo (length xs) ≡ xs
 run-list d f lo [] h = refl

@@ -1,5 +1,5 @@
--- The definitions without bounds lists, as they were before wish 1, kept here alone, and: with count 0 all four answers, of board, sheet, pick and step, are theirs.
--- Assumes nothing.
+-- The definitions without bounds lists, as they were before wish 1 but for what later wishes moved, kept here alone, and: with count 0 all four answers, of board, sheet,
+-- pick and step, are theirs. Assumes nothing.
 use mathlib.Core.Path.{_≡_, refl, sym, ap, _∙_, subst}
 use Prim.Native.Nat.{ℕ, zero, suc}
 use mathlib.Core.Bool.{Bool, not}

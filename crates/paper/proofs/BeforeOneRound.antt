@@ -1,4 +1,4 @@
--- The definitions as they were before wish 2 ("one round token"), kept here alone, and what of them stands: boards and sheets are theirs on every call, so 8 is given as before
+-- The definitions as they were before wish 2 ("one round token"), but for the order of ends, kept here alone, and what of them stands: boards and sheets are theirs on every call, so 8 is given as before
 -- (`board-as-before`, `sheet-as-before`); what was acceptable is (`still-acceptable`); step answers what it answered unless that was a 10 (`step-as-before`); pick's answer is the
 -- same or comes before it, and 13 is given only where it was (`pick-no-later`, `refused-before`). Assumes nothing.
 use mathlib.Core.Path.{_≡_, refl, sym, ap, _∙_, subst}

@@ -11,7 +11,7 @@ use lib.Pow.{pow-lt, pow-add, pow-mono, shl-exact, shl-shr, mod-pow-add}
 use lib.Bits.{and-le-l, bitAnd, bitOr, and-shr, or-shr, and-step, or-step}
 use borrow.Author.Tests.{eq-eqb, ne-eqb, eqb-true, not-true}
 use Rattle.paper.specs.Lists.{has, any, below}
-use Rattle.paper.proofs.Digits.{has-zero, zero-of}
+use Rattle.paper.proofs.Digits.{has-mod, has-zero, zero-of, in-digit}
 use Rattle.paper.proofs.Bools.{never, and-true, and-both}
 use Rattle.paper.proofs.Members.{any-in, in-below, below-in, any-none}
 
@@ -114,6 +114,32 @@ same-digits x y n lx ly h = sym (mod-eq-of-lt lx) ∙ below-n n h ∙ mod-eq-of-
     below-n : (n : ℕ) → ((k : ℕ) → k < n → has x k ≡ has y k) → x % 2 ^ n ≡ y % 2 ^ n
     below-n zero h = omega arith
     below-n (suc n) h = mod-more x n ∙ rw (digit n (h n (le-refl (suc n))), below-n n (λ k l. h k (omega arith))) (sym (mod-more y n))
+
+-- there is a word with any digits
+pub word-of : (q : ℕ → Bool) (n : ℕ) → (x : ℕ) × (x < 2 ^ n) × ((k : ℕ) → k < n → has x k ≡ q k)
+word-of q zero = (0, omega arith, λ k l. absurd (omega arith))
+word-of q (suc n) = by (q n) refl (word-of q n)
+  where
+    by : (b : Bool) → q n ≡ b → (x : ℕ) × (x < 2 ^ n) × ((k : ℕ) → k < n → has x k ≡ q k) → (x : ℕ) × (x < 2 ^ suc n) × ((k : ℕ) → k < suc n → has x k ≡ q k)
+    by true e r =
+        let x = r .0 + 2 ^ n in
+        let fits : x < 2 ^ suc n = omega (arith, r .1, pow-suc 2 n) in
+        let d = in-digit x n (r .0) (r .1) (mod-eq-of-lt fits) in (
+          x,
+          fits,
+          λ k l. elim (decLt k n) [
+            | yes u ↦ sym (has-mod x n k u) ∙ ap (λ z. has z k) (d .1) ∙ r .2 k u
+            | no u ↦ let z : k ≡ n = omega arith in rw z (d .0 ∙ sym e)
+          ],
+        )
+    by false e r = (
+      r .0,
+      omega (arith, r .1, pow-suc 2 n),
+      λ k l. elim (decLt k n) [
+        | yes u ↦ r .2 k u
+        | no u ↦ let z : k ≡ n = omega arith in rw z (has-high (r .0) n n (r .1) (le-refl n) ∙ sym e)
+      ],
+    )
 
 -- ---- two words meet
 pub meet-has : (x y n : ℕ) → x < 2 ^ n → not (eqb (bitAnd x y) 0) ≡ true → (j : ℕ) × (j < n) × (has x j ≡ true) × (has y j ≡ true)

@@ -7,7 +7,7 @@ use mathlib.Core.Option.{Option}
 use lib.ListN.{length}
 use Rattle.paper.specs.Lists.{keep}
 use Rattle.paper.specs.Marking.{Marking}
-use Rattle.paper.specs.Offers.{Offer, elem, lastEdge, paths, offers, isEnd, lex, sortedPaths, endOrder, ends}
+use Rattle.paper.specs.Offers.{Offer, elem, lastEdge, paths, offers, isEnd, targetOf, lex, sortedPaths, endOrder, ends}
 use Rattle.paper.proofs.Bools.{and-true, and-both, iff}
 use Rattle.paper.proofs.Members.{In, in-keep, keep-in, Distinct, distinct-keep}
 use Rattle.paper.proofs.Sameness.{elem-in, in-elem, distinct-offers}
@@ -17,14 +17,16 @@ use Rattle.paper.proofs.Orders.{Lawful, compare-lawful, compare-exact, 
 -- ---- the order of ends
 pub ends-lawful : (t : List ℕ) → Lawful (endOrder t)
 unfolding endOrder
-ends-lawful t = pair-lawful compare-lawful (lex-lawful (lex-lawful compare-lawful)) lastEdge sortedPaths
+ends-lawful t =
+    pair-lawful compare-lawful (pair-lawful compare-lawful (lex-lawful (lex-lawful compare-lawful)) lastEdge sortedPaths) (targetOf t) (λ o. o)
 
 -- offers that are alike in it have the same last edge and the same paths
 module _ (t : List ℕ) (o p : Offer) (h : endOrder t o p ≡ Ordering·eq) where
   alike-parts : (lastEdge o ≡ lastEdge p) × (sortedPaths o ≡ sortedPaths p)
   unfolding endOrder
   alike-parts =
-      let r = then-eq (compare (lastEdge o) (lastEdge p)) (lex (lex compare) (sortedPaths o) (sortedPaths p)) h in
+      let q = then-eq (compare (targetOf t o) (targetOf t p)) _ h in
+      let r = then-eq (compare (lastEdge o) (lastEdge p)) (lex (lex compare) (sortedPaths o) (sortedPaths p)) (q .1) in
       (compare-exact _ _ (r .0), lex-exact (lex-exact compare-exact) (sortedPaths o) (sortedPaths p) (r .1))
 
   pub alike-last : lastEdge o ≡ lastEdge p

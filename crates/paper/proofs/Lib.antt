@@ -36,6 +36,8 @@ pub mod BeforeBounds
 pub mod OneRound
 pub mod BeforeOneRound
 pub mod Boards
+pub mod Regrouped
+pub mod BeforeGrouping
 pub mod Sizes
 pub mod Picks
 pub mod PickMeans
@@ -53,3 +55,4 @@ pub mod Computed
 pub mod SmallEvent
 pub mod RoundEvent
 pub mod WhyEvent
+pub mod GroupedEvent

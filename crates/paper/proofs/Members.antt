@@ -5,7 +5,7 @@ use Prim.Native.Nat.{ℕ, zero, suc, _+_, _≤_, _<_}
 use native.Mathlib.Omega.{arith}
 use mathlib.Core.Bool.{Bool, true, false, _||_, cond}
 use lib.Dec.{leb, leb·suc-suc, leb·zero}
-use lib.ListN.{length}
+use lib.ListN.{length, getD}
 use mathlib.Core.Logic.{⊎-elim}
 use mathlib.Core.List.{List, [], _∷_, _++_}
 use mathlib.Core.Option.{Option, none, some}
@@ -156,6 +156,23 @@ module _ {A : Type 0} where
     λ m. ⊎-elim (d .0) (h x (here refl)) (in-append xs m),
     distinct-append xs ys (d .1) e (λ z m. h z (later m)),
   )
+
+  pub entry-in : (a : A) (xs : List A) (k : ℕ) → k < length xs → In (getD xs k a) xs
+  entry-in a [] k l = absurd (omega arith)
+  entry-in a (x ∷ xs) zero l = here refl
+  entry-in a (x ∷ xs) (suc k) l = later (entry-in a xs k (omega arith))
+
+  pub in-entry : (a : A) {x : A} {xs : List A} → In x xs → (k : ℕ) × (k < length xs) × (x ≡ getD xs k a)
+  in-entry a (here e) = (0, omega arith, e)
+  in-entry a (later m) = let r = in-entry a m in (suc (r .0), omega (arith, r .1), r .2)
+
+  -- an entry has one place
+  pub distinct-one : (a : A) (xs : List A) → Distinct xs → (j k : ℕ) → j < length xs → k < length xs → getD xs j a ≡ getD xs k a → j ≡ k
+  distinct-one a [] d j k lj lk e = absurd (omega arith)
+  distinct-one a (x ∷ xs) d zero zero lj lk e = refl
+  distinct-one a (x ∷ xs) d zero (suc k) lj lk e = absurd (d .0 (in-equal e (entry-in a xs k (omega arith))))
+  distinct-one a (x ∷ xs) d (suc j) zero lj lk e = absurd (d .0 (in-equal (sym e) (entry-in a xs j (omega arith))))
+  distinct-one a (x ∷ xs) d (suc j) (suc k) lj lk e = ap suc (distinct-one a xs (d .1) j k (omega arith) (omega arith) e)
 
 module _ {A B : Type 0} where
   pub distinct-each : (f : A → B) → ((x y : A) → f x ≡ f y → x ≡ y) → (xs : List A) → Distinct xs → Distinct (each f xs)

@@ -1,5 +1,6 @@
 -- The small event: the paper's list "To prove, as one table (T the table, M the marking)" as a table, `cases`, in its order and numbers, and one theorem that
--- every row holds, `small-event`; and the same event under bounds, `bound-cases`. Assumes nothing.
+-- every row holds, `small-event`; and the same event under bounds, `bound-cases`. Its two ends have changed places with wish 5 ("Cases follow."): C1, C4, C5, C7
+-- and C11 are the paper's with the other end's number, C2, C3 and C12 keep theirs. Assumes nothing.
 use Prim.Native.Nat.{ℕ}
 use mathlib.Core.Path.{_≡_, refl, sym, subst}
 use mathlib.Core.Logic.{⊎-elim}
@@ -57,7 +58,7 @@ W = terms guards noBounds
 abbrev pub W9 : Terms
 W9 = terms (set guards 3 0x00) noBounds
 
--- C7: what step 1 writes
+-- C7: what step 0 writes
 abbrev pub M7 : List ℕ
 M7 = 0x00 ∷ 0x0F ∷ 0x01 ∷ 0x00 ∷ 0x01 ∷ 0x00 ∷ 0x00 ∷ 0x00 ∷ 0x09 ∷ 0x01 ∷ 0x00 ∷ 0x00 ∷ 0x00 ∷ 0x07 ∷ 0x01 ∷ 0x00 ∷ 0x00 ∷ []
 
@@ -65,14 +66,14 @@ M7 = 0x00 ∷ 0x0F ∷ 0x01 ∷ 0x00 ∷ 0x01 ∷ 0x00 ∷ 0x00 ∷ 0x00 ∷ 0x0
 abbrev pub M8 : List ℕ
 M8 = 0x00 ∷ 0x0B ∷ 0x01 ∷ 0x00 ∷ 0x01 ∷ 0x00 ∷ 0x00 ∷ 0x00 ∷ 0x09 ∷ 0x00 ∷ 0x00 ∷ 0x00 ∷ 0x00 ∷ []
 
--- C1: the sheet of the two ends, on edge 3 to node 6, value 7, path 1,3; on edge 4 to node 4, value 7, paths 0,4 and 1,2,4
+-- C1: the sheet of the two ends, on edge 4 to node 4, value 7, paths 0,4 and 1,2,4; on edge 3 to node 6, value 7, path 1,3
 abbrev pub twoEnds : List ℕ
 twoEnds =
     0x00 ∷ 0x1A ∷ 0x01 ∷ 0x02 ∷
-    0x03 ∷ 0x01 ∷ 0x00 ∷ 0x00 ∷ 0x00 ∷ 0x07 ∷ 0x01 ∷ 0x02 ∷ 0x01 ∷ 0x03 ∷
-    0x04 ∷ 0x01 ∷ 0x00 ∷ 0x00 ∷ 0x00 ∷ 0x07 ∷ 0x02 ∷ 0x02 ∷ 0x00 ∷ 0x04 ∷ 0x03 ∷ 0x01 ∷ 0x02 ∷ 0x04 ∷ []
+    0x04 ∷ 0x01 ∷ 0x00 ∷ 0x00 ∷ 0x00 ∷ 0x07 ∷ 0x02 ∷ 0x02 ∷ 0x00 ∷ 0x04 ∷ 0x03 ∷ 0x01 ∷ 0x02 ∷ 0x04 ∷
+    0x03 ∷ 0x01 ∷ 0x00 ∷ 0x00 ∷ 0x00 ∷ 0x07 ∷ 0x01 ∷ 0x02 ∷ 0x01 ∷ 0x03 ∷ []
 
--- C9: of the second alone
+-- C9: of the first alone
 abbrev pub oneEnd : List ℕ
 oneEnd =
     0x00 ∷ 0x10 ∷ 0x01 ∷ 0x01 ∷
@@ -93,24 +94,24 @@ cases =
     c 1 (sheets T M W) (good twoEnds) ∷
     -- choice 0,1: refusal 10 place 0
     c 2 (steps T M W (0 ∷ 1 ∷ [])) (refused 10 0) ∷
-    -- pick: 0
+    -- pick: 0, which now starts the action
     c 3 (picks T M W 255) (good (0 ∷ [])) ∷
-    -- pick for node 5: 1
-    c 4 (picks T M W 5) (good (1 ∷ [])) ∷
-    -- for node 4: 1
-    c 5 (picks T M W 4) (good (1 ∷ [])) ∷
+    -- pick for node 5: 0
+    c 4 (picks T M W 5) (good (0 ∷ [])) ∷
+    -- for node 4: 0
+    c 5 (picks T M W 4) (good (0 ∷ [])) ∷
     -- for node 2: 13 place 2
     c 6 (picks T M W 2) (refused 13 2) ∷
-    -- step 1: `000F 01 00 01 00000009 01 00000007 01 00 00`
-    c 7 (steps T M W (1 ∷ [])) (good M7) ∷
+    -- step 0: `000F 01 00 01 00000009 01 00000007 01 00 00`
+    c 7 (steps T M W (0 ∷ [])) (good M7) ∷
     -- then finish 5, no bytes: `000B 01 00 01 00000009 00 00 00 00`
     c 8 (finishes T M7 5 []) (good M8) ∷
     -- guard 3 at 0: one end, on edge 4
     c 9 (sheets T M W9) (good oneEnd) ∷
     -- empty choice: M
     c 10 (steps T M W []) (good M) ∷
-    -- node 6 holding two: step 0 gives 12 place 6
-    c 11 (steps T M11 W (0 ∷ [])) (refused 12 6) ∷
+    -- node 6 holding two: step 1 gives 12 place 6
+    c 11 (steps T M11 W (1 ∷ [])) (refused 12 6) ∷
     -- node 2 made a fork: step 0 gives 11 place 2, pick gives 0,1
     c 12 (steps T12 M W (0 ∷ [])) (refused 11 2) ∷
     c 12 (picks T12 M W 255) (good (0 ∷ 1 ∷ [])) ∷ []
@@ -206,8 +207,8 @@ pub started : start T (0x02 ∷ 0x00 ∷ 0x00 ∷ 0x00 ∷ 0x07 ∷ 0x00 ∷ 0x0
 unfolding computed
 started = refl
 
--- "Whole output": the lines `ends 2`, `0 3 6 7 1,3`, `1 4 4 7 0,4 1,2,4`, `pick 0`
+-- "Whole output", by wish 5: the lines `ends 2`, `0 4 4 7 0,4 1,2,4`, `1 3 6 7 1,3`, `pick 0`
 pub printed : Prints (T ++ M ++ guards)
-    (101 ∷ 110 ∷ 100 ∷ 115 ∷ 32 ∷ 50 ∷ 10 ∷ 48 ∷ 32 ∷ 51 ∷ 32 ∷ 54 ∷ 32 ∷ 55 ∷ 32 ∷ 49 ∷ 44 ∷ 51 ∷ 10 ∷ 49 ∷ 32 ∷ 52 ∷ 32 ∷ 52 ∷ 32 ∷ 55 ∷ 32 ∷ 48 ∷ 44 ∷ 52 ∷ 32 ∷ 49 ∷ 44 ∷ 50 ∷ 44 ∷ 52 ∷ 10 ∷ 112 ∷ 105 ∷ 99 ∷ 107 ∷ 32 ∷ 48 ∷ 10 ∷ [])
+    (101 ∷ 110 ∷ 100 ∷ 115 ∷ 32 ∷ 50 ∷ 10 ∷ 48 ∷ 32 ∷ 52 ∷ 32 ∷ 52 ∷ 32 ∷ 55 ∷ 32 ∷ 48 ∷ 44 ∷ 52 ∷ 32 ∷ 49 ∷ 44 ∷ 50 ∷ 44 ∷ 52 ∷ 10 ∷ 49 ∷ 32 ∷ 51 ∷ 32 ∷ 54 ∷ 32 ∷ 55 ∷ 32 ∷ 49 ∷ 44 ∷ 51 ∷ 10 ∷ 112 ∷ 105 ∷ 99 ∷ 107 ∷ 32 ∷ 48 ∷ 10 ∷ [])
 unfolding computed
 printed = record { picked = good (0 ∷ []); allowed = picked T M W 255; is-text = refl }

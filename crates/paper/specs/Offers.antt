@@ -1,4 +1,4 @@
--- "Offers", with wishes 1 and 2: offers, makers, competing, ends in order, rows 7, 18 and 8. Assumes nothing.
+-- "Offers", with wishes 1, 2 and 5: offers, makers, competing, ends in order, rows 7, 18 and 8. Assumes nothing.
 use Prim.Native.Nat.{ℕ, zero, suc, _+_, _*_, _-_, compare, Ordering, Ordering·lt, Ordering·eq, Ordering·gt}
 use mathlib.Core.Bool.{Bool, true, false, not, _&&_, _||_, cond}
 use mathlib.Core.List.{List, [], _∷_, _++_}
@@ -240,7 +240,7 @@ module _ (t : List ℕ) where
   belongs n o = eqb (targetOf o) n || (isPin (kind t (targetOf o)) && eqb (owner t (targetOf o)) n)
 
 -- ---- "Order of ends: by last edge number; then by their paths, sorted and compared edge by edge, path by path, a shorter list first where it
--- begins the longer one."
+-- begins the longer one."; but wish 5: "Ends are to be ordered by target node first, then as before."
 abbrev pub thenBy : Ordering → Ordering → Ordering
 thenBy Ordering·lt o = Ordering·lt
 thenBy Ordering·eq o = o
@@ -272,7 +272,9 @@ sortedPaths o = sort (lex compare) (paths o)
 
 module _ (t : List ℕ) where
   unfoldable pub endOrder : Offer → Offer → Ordering
-  endOrder o p = thenBy (compare (lastEdge o) (lastEdge p)) (lex (lex compare) (sortedPaths o) (sortedPaths p))
+  endOrder o p =
+      thenBy (compare (targetOf t o) (targetOf t p))
+      (thenBy (compare (lastEdge o) (lastEdge p)) (lex (lex compare) (sortedPaths o) (sortedPaths p)))
 
   -- "They are numbered from 0": by their place in this list
   unfoldable pub ends : List Offer → List Offer

@@ -325,7 +325,9 @@ impl Choices<'_> {
     }
 
     /// "Then destinations gain, in end order: values append to pins, buffers and
-    /// parameters, and actions run. Finals drop what arrives."
+    /// parameters, and actions run. Finals drop what arrives." Wish 5: "The order of
+    /// values arriving at any one stock stays." It does, as ends of one target are
+    /// ordered "as before".
     fn arrive(&self, end: usize, after: &mut Marking) {
         let target = self.target(end);
         let node = &self.table.nodes[target];

@@ -1,6 +1,7 @@
 //! The paper's heading "Offers": what could flow, and where it would end. Rule (c)
 //! of competing is as the customers' wish 2, "One round token for all tables",
-//! amends it.
+//! amends it. The order of ends is that of their wish 5, "Group the sheet by
+//! destination".
 
 use crate::budget::{Budget, Stop};
 use crate::bytes::Value;
@@ -355,22 +356,18 @@ impl Offers {
             .collect()
     }
 
-    /// "An end is an offer on an edge whose target is no control node. [...]
-    /// Order of ends: by last edge number; then by their paths, sorted and
-    /// compared edge by edge, path by path, a shorter list first where it begins
-    /// the longer one." That is how Rust compares lists of lists. "at most [...]
-    /// 20 ends."
+    /// "An end is an offer on an edge whose target is no control node." Wish 5: "Ends
+    /// are to be ordered by target node first, then as before", which is "by last edge
+    /// number; then by their paths, sorted and compared edge by edge, path by path, a
+    /// shorter list first where it begins the longer one." That is how Rust compares
+    /// lists of lists. The target node of an end at a pin is the pin, not its action.
+    /// "at most [...] 20 ends."
     fn number_ends(&mut self, table: &Table) -> Result<(), Refusal> {
         let list = &self.list;
-        let is_end = |offer: &usize| {
-            let target = table.edges[list[*offer].edge].target;
-            !is_control_node(table.kind(target))
-        };
+        let target = |offer: &usize| table.edges[list[*offer].edge].target;
+        let is_end = |offer: &usize| !is_control_node(table.kind(target(offer)));
         let mut ends: Vec<usize> = (0..list.len()).filter(is_end).collect();
-        ends.sort_by(|a, b| {
-            let by_edge = list[*a].edge.cmp(&list[*b].edge);
-            by_edge.then_with(|| list[*a].paths.cmp(&list[*b].paths))
-        });
+        ends.sort_by_key(|offer| (target(offer), list[*offer].edge, &list[*offer].paths));
         self.ends = ends;
         require(SIZE_PASSED, self.ends.len() <= MOST_ENDS)
     }

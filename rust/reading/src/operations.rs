@@ -54,14 +54,14 @@ pub fn start(table: &[u8], values: &[u8], room: usize) -> Answer {
 /// then per end: last edge, 1 or 0 for value or none, 4 value bytes (zero if
 /// none), number of paths, and per path, in sorted order, its length and edges."
 /// And by wish 1: "Beside the guard bytes, sheet, pick and step take a bounds
-/// list".
+/// list". By wish 5 "Ends are to be ordered by target node first, then as before".
 pub fn sheet(table: &[u8], marking: &[u8], guards: &[u8], bounds: &[u8], room: usize) -> Answer {
     unbudgeted(|steps| sheet_within(table, marking, guards, bounds, room, steps))
 }
 
 /// "pick: as sheet, with a node number, or 255 for none named. Writes a choice."
 /// The first acceptable choice, and if a node is named, the first that has an end
-/// of it.
+/// of it. Wish 5: "Step and pick follow the new numbers."
 pub fn pick(
     table: &[u8],
     marking: &[u8],
@@ -89,7 +89,8 @@ pub fn why(
     unbudgeted(|steps| why_within(table, marking, guards, bounds, node, room, steps))
 }
 
-/// "step: as sheet, with a choice. Writes the marking."
+/// "step: as sheet, with a choice. Writes the marking." Wish 5: "Step and pick follow
+/// the new numbers", so the choice and the place of 10 are in the numbers of sheet.
 pub fn step(
     table: &[u8],
     marking: &[u8],
@@ -235,7 +236,7 @@ impl Board {
         self.offers.ends.len()
     }
 
-    /// The targets of its ends, in their order.
+    /// The targets of its ends, in their order. By wish 5 they never fall.
     pub fn targets(&self) -> Vec<u8> {
         let ends = (0..self.ends()).map(|end| self.offers.end(end));
         ends.map(|end| self.table.edges[end.edge].target as u8)

@@ -388,19 +388,20 @@ fn action_with_pin() -> (Vec<u8>, Vec<u8>) {
 fn an_action_agrees_as_a_whole() {
     let (table, marking) = action_with_pin();
     let step = |choice: &[u8]| step(&table, &marking, &[1; 5], &NO_BOUNDS, choice, ROOM);
-    assert_eq!(step(&[0]), refused(12, 0)); // the pin is 1, its action 0
-    assert_eq!(step(&[3, 4]), refused(12, 0)); // the pin has too few
-    assert_eq!(step(&[0, 3]), refused(12, 0)); // edge 4 has none
+    // Ends 0 and 1 are the action's, on edges 3 and 4; 2 to 4 the pin's, on 0 to 2.
+    assert_eq!(step(&[2]), refused(12, 0)); // the pin is 1, its action 0
+    assert_eq!(step(&[0, 1]), refused(12, 0)); // the pin has too few
+    assert_eq!(step(&[0, 2]), refused(12, 0)); // edge 4 has none
     assert_eq!(step(&[0, 1, 2, 3, 4]), refused(12, 0)); // the pin has too many
-    assert_eq!(number(&step(&[0, 1, 3, 4])), 0);
+    assert_eq!(number(&step(&[0, 1, 2, 3])), 0);
     assert_eq!(step(&[0, 0]), refused(9, 0));
     assert_eq!(step(&[1, 0]), refused(9, 0));
     assert_eq!(step(&[5]), refused(9, 0));
     for node in [0, 1, NO_NODE] {
         let pick = pick(&table, &marking, &[1; 5], &NO_BOUNDS, node, ROOM);
-        assert_eq!(pick, Answer::Good(vec![0, 1, 3, 4]));
+        assert_eq!(pick, Answer::Good(vec![0, 1, 2, 3]));
     }
-    let running = reply(step(&[0, 1, 3, 4]));
+    let running = reply(step(&[0, 1, 2, 3]));
     assert_eq!(
         running,
         framed("01 00 01 02 00000001 00000002 00 00 01 00000003 00 00")

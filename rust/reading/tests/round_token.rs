@@ -174,7 +174,7 @@ fn a_join_of_an_object_edge_only_has_nothing_in_common() {
     parts.edges[3] = [CONTROL, 3, 6, 0];
     parts.add_node(FLOW_FINAL, 0);
     let point = Point::started(&parts, &[7, 9]);
-    assert_eq!(point.ends(), ["- 3", "7 0,2,4", "9 1,2,4"]);
+    assert_eq!(point.ends(), ["7 0,2,4", "9 1,2,4", "- 3"]); // at 5, 5 and 6
     assert_eq!(point.competing(), []);
     assert_eq!(point.freed(), []);
 }
@@ -278,23 +278,23 @@ fn a_token_forked_twice_makes_two_offers_that_differ() {
 
 #[test]
 fn place_10_passes_over_freed_ends() {
-    // The same without edge 3: each result with each of two tokens.
+    // The same without edge 3, which leads to 7: each result with each of two tokens.
     let mut parts = round_with_second_control_edge(2);
     parts.edges[3][2] = 7;
     let point = Point::started(&parts, &[7, 9]);
     let ends = [
-        "- 3",
         "7 0,2,4 5,7,4",
         "7 0,2,4 6,7,4",
         "9 1,2,4 5,7,4",
         "9 1,2,4 6,7,4",
+        "- 3",
     ];
     assert_eq!(point.ends(), ends);
-    assert_eq!(point.competing(), [(1, 2), (3, 4)]);
-    assert_eq!(point.freed(), [(1, 3), (2, 4)]); // 1 and 4, 2 and 3 were free before
-    assert_eq!(point.step(&[1, 3, 4]), refused(10, 3)); // before, at 1
-    assert_eq!(point.step(&[1, 2, 3]), refused(10, 1));
-    assert_eq!(number(&point.step(&[1, 4])), 0);
+    assert_eq!(point.competing(), [(0, 1), (2, 3)]);
+    assert_eq!(point.freed(), [(0, 2), (1, 3)]); // 0 and 3, 1 and 2 were free before
+    assert_eq!(point.step(&[0, 2, 3]), refused(10, 2)); // before, at 0
+    assert_eq!(point.step(&[0, 1, 2]), refused(10, 0));
+    assert_eq!(number(&point.step(&[0, 3])), 0);
 }
 
 /// One result in parameter 0, whose edge 0 leads to node 1; its edges 1 and 2 lead to

@@ -1,16 +1,17 @@
 //! The paper's small event: start, and C1 to C12; then the same event under the
-//! bounds lists of wish 1.
+//! bounds lists of wish 1. Ends are numbered by the order of wish 5: "Cases follow."
+//! So the end on edge 4, at node 4, is 0 and the end on edge 3, at node 6, is 1.
 
 mod common;
 
 use common::{bounds, hex, refused, reply, small_guards, small_marking, small_table, MOST, ROOM};
 use reading::{check, finish, pick, sheet, start, step, Answer, Board, NO_BOUNDS, NO_NODE};
 
-/// The sheet of C1: ends on edges 3 and 4, both with value 7.
+/// The sheet of C1: ends on edges 4 and 3, at nodes 4 and 6, both with value 7.
 fn small_sheet() -> Vec<u8> {
     hex("001A 01 02
-         03 01 00000007 01 02 01 03
-         04 01 00000007 02 02 00 04 03 01 02 04")
+         04 01 00000007 02 02 00 04 03 01 02 04
+         03 01 00000007 01 02 01 03")
 }
 
 /// The sheet of C9: the end on edge 4 alone.
@@ -88,10 +89,10 @@ fn c3_pick() {
 
 #[test]
 fn c4_c5_c6_pick_for_a_node() {
-    assert_eq!(small_pick(5), Answer::Good(vec![1]));
-    assert_eq!(small_pick(4), Answer::Good(vec![1]));
+    assert_eq!(small_pick(5), Answer::Good(vec![0]));
+    assert_eq!(small_pick(4), Answer::Good(vec![0]));
     assert_eq!(small_pick(2), refused(13, 2));
-    assert_eq!(small_pick(6), Answer::Good(vec![0]));
+    assert_eq!(small_pick(6), Answer::Good(vec![1]));
     assert_eq!(small_pick(7), refused(13, 7));
     assert_eq!(small_pick(254), refused(13, 254));
 }
@@ -99,12 +100,19 @@ fn c4_c5_c6_pick_for_a_node() {
 #[test]
 fn c7_c8_step_and_finish() {
     let stepped = hex("000F 01 00 01 00000009 01 00000007 01 00 00");
-    assert_eq!(small_step(&[1]), Answer::Good(stepped.clone()));
+    assert_eq!(small_step(&[0]), Answer::Good(stepped.clone()));
     let finished = hex("000B 01 00 01 00000009 00 00 00 00");
     assert_eq!(
         finish(&small_table(), &stepped, 5, &[], ROOM),
         Answer::Good(finished)
     );
+}
+
+#[test]
+fn the_other_step() {
+    // 7 goes to the buffer, 6, and the token stays.
+    let stepped = hex("000F 01 00 01 00000009 00 00 01 00000007 01");
+    assert_eq!(small_step(&[1]), Answer::Good(stepped));
 }
 
 #[test]
@@ -127,15 +135,12 @@ fn c10_the_empty_choice_changes_nothing() {
 #[test]
 fn c11_a_full_buffer() {
     let full = hex("0017 01 00 02 00000007 00000009 00 00 02 00000001 00000002 01");
-    let answer = step(
-        &small_table(),
-        &full,
-        &small_guards(),
-        &NO_BOUNDS,
-        &[0],
-        ROOM,
-    );
-    assert_eq!(answer, refused(12, 6));
+    let (table, guards) = (small_table(), small_guards());
+    let step = |choice: &[u8]| step(&table, &full, &guards, &NO_BOUNDS, choice, ROOM);
+    assert_eq!(step(&[1]), refused(12, 6));
+    // The end at node 4 asks nothing of node 6.
+    let stepped = hex("0017 01 00 01 00000009 01 00000007 01 02 00000001 00000002 00");
+    assert_eq!(step(&[0]), Answer::Good(stepped));
 }
 
 #[test]
@@ -143,10 +148,10 @@ fn c12_a_fork_is_passed_whole() {
     let mut table = small_table();
     table[5 + 4 * 2] = 10;
     let (marking, guards) = (small_marking(), small_guards());
-    assert_eq!(
-        step(&table, &marking, &guards, &NO_BOUNDS, &[0], ROOM),
-        refused(11, 2)
-    );
+    for end in [0, 1] {
+        let alone = step(&table, &marking, &guards, &NO_BOUNDS, &[end], ROOM);
+        assert_eq!(alone, refused(11, 2));
+    }
     assert_eq!(
         pick(&table, &marking, &guards, &NO_BOUNDS, NO_NODE, ROOM),
         Answer::Good(vec![0, 1])
@@ -226,7 +231,7 @@ fn only_the_oldest_value_is_offered() {
     // 9 waits behind 7.
     let nine = bounds(&[(1, 9, 9)]);
     assert_eq!(sheet_under(&[1; 5], &[(1, 9, 9)]), sheet_of_none());
-    let stepped = reply(small_step(&[1]));
+    let stepped = reply(small_step(&[0])); // C7
     let sheet = sheet(&small_table(), &stepped, &small_guards(), &nine, ROOM);
     assert_eq!(reply(sheet), hex("000C 01 01 03 01 00000009 01 02 01 03"));
 }
@@ -234,13 +239,13 @@ fn only_the_oldest_value_is_offered() {
 #[test]
 fn pick_and_step_go_by_the_ends_under_bounds() {
     let (table, marking, guards) = (small_table(), small_marking(), small_guards());
-    let eight_or_more = bounds(&[(3, 8, MOST)]); // so end 0 is on edge 4
+    let eight_or_more = bounds(&[(3, 8, MOST)]); // so end 0, on edge 4, is the only one
     let pick = |node: u8| pick(&table, &marking, &guards, &eight_or_more, node, ROOM);
     assert_eq!(pick(NO_NODE), Answer::Good(vec![0]));
     assert_eq!(pick(5), Answer::Good(vec![0]));
     assert_eq!(pick(6), refused(13, 6));
     let step = |choice: &[u8]| step(&table, &marking, &guards, &eight_or_more, choice, ROOM);
-    assert_eq!(step(&[0]), small_step(&[1])); // C7
+    assert_eq!(step(&[0]), small_step(&[0])); // C7
     assert_eq!(step(&[1]), refused(9, 0));
     assert_eq!(step(&[]), Answer::Good(marking.clone()));
 }
@@ -254,7 +259,7 @@ fn a_barred_branch_of_a_fork_is_not_missed_and_a_blocked_one_is() {
     let step_0 = |list: &[u8]| step(&table, &marking, &guards, list, &[0], ROOM);
     let barred = bounds(&[(3, 8, MOST)]);
     assert_eq!(pick(&barred), Answer::Good(vec![0]));
-    assert_eq!(step_0(&barred), small_step(&[1]));
+    assert_eq!(step_0(&barred), small_step(&[0])); // C7
     let blocked = bounds(&[(4, 8, MOST)]); // over edge 2, but not on from the join
     assert_eq!(pick(&blocked), Answer::Good(vec![]));
     assert_eq!(step_0(&blocked), refused(11, 2));
@@ -264,7 +269,7 @@ fn a_barred_branch_of_a_fork_is_not_missed_and_a_blocked_one_is() {
 fn a_board_is_under_bounds_too() {
     let (table, marking, guards) = (small_table(), small_marking(), small_guards());
     let board = |list: &[u8]| Board::within(&table, &marking, &guards, list, 100).unwrap();
-    assert_eq!(board(&NO_BOUNDS).unwrap().targets(), [6, 4]);
+    assert_eq!(board(&NO_BOUNDS).unwrap().targets(), [4, 6]);
     assert_eq!(board(&bounds(&[(3, 8, MOST)])).unwrap().targets(), [4]);
     assert_eq!(board(&bounds(&[(3, 8, 7)])).unwrap_err(), refused(18, 0));
 }

@@ -5,7 +5,7 @@ mod common;
 
 use common::{
     bounds, ends_of, for_each_point, framed, hex, number, refused, reply, small_guards,
-    small_marking, small_table, Point, ACTION, ACTIVITY_FINAL, BUFFER, CONTROL, DECISION,
+    small_marking, small_table, Ends, Point, ACTION, ACTIVITY_FINAL, BUFFER, CONTROL, DECISION,
     FLOW_FINAL, FORK, INCOMING, INITIAL, INPUT_PIN, JOIN, MERGE, MOST, OBJECT, OUTGOING,
     OUTPUT_PIN, ROOM,
 };
@@ -68,7 +68,7 @@ fn running_marking() -> Vec<u8> {
 
 #[test]
 fn the_small_event() {
-    // End 0 belongs to the buffer, 6, end 1 to the pin, 4, and to its action, 5. Either
+    // End 0 belongs to the pin, 4, and to its action, 5, end 1 to the buffer, 6. Either
     // alone is acceptable (C3 to C5). No end belongs to the others.
     let point = small_point(small_marking());
     assert_eq!(point.reasons(), [1, 1, 1, 1, 0, 0, 0]);
@@ -87,7 +87,7 @@ fn nodes_that_do_not_exist_get_1_and_255_gets_0() {
 
 #[test]
 fn a_full_buffer_gets_2() {
-    // End 0 would be a third value where two is the most, whatever is taken with it.
+    // End 1 would be a third value where two is the most, whatever is taken with it.
     let point = small_point(full_marking());
     assert_eq!(point.reasons(), [1, 1, 1, 1, 0, 0, 2]);
 }
@@ -105,7 +105,7 @@ fn a_fork_binds_a_node_to_the_destinations_of_its_other_branches() {
     // The fork is passed whole by both ends only (C12), which both destinations take.
     let point = forked_point(small_marking());
     assert_eq!(point.reasons(), [1, 1, 1, 1, 0, 0, 0]);
-    // With the buffer full: end 1 alone satisfies the action, competes with none and
+    // With the buffer full: end 0 alone satisfies the action, competes with none and
     // leaves the fork in parts. Both ends pass it whole, but 6 does not agree. So 5 for
     // the pin and the action, and for 6 itself it is its own rule.
     let point = forked_point(full_marking());
@@ -660,34 +660,21 @@ fn the_reason_is_the_first_level_at_which_no_choice_is_left() {
 
 #[test]
 fn the_reason_is_what_step_and_the_own_rule_say_of_all_sets() {
-    for_each_reason(23, 600, 6, |event, board, node, reason| {
-        let told = Ends::of(event).reason_by_steps(board, node);
+    for_each_reason(23, 1_000, 6, |event, board, node, reason| {
+        let told = ends_at(event).reason_by_steps(board, node);
         assert_eq!(reason, told, "node {node} {event:?}");
     });
 }
 
-/// What a sheet, a table and a marking tell of the ends, without a word on levels.
-struct Ends {
-    parts: Parts,
-    /// Per node, the number of its values; for an action, whether it runs.
-    held: Vec<u8>,
-    /// Per end, its last edge.
-    last_edges: Vec<u8>,
+/// What the sheet of this point of an event tells of its ends.
+fn ends_at(event: &Event) -> Ends {
+    let (table, marking) = (&event.table, &event.marking);
+    let sheet = sheet_within(table, marking, &event.guards, &event.bounds, ROOM, BUDGET);
+    let ends = ends_of(&reply(sheet.unwrap()));
+    Ends::of(&Parts::of(table).unwrap(), marking, &ends)
 }
 
 impl Ends {
-    fn of(event: &Event) -> Ends {
-        let (table, marking) = (&event.table, &event.marking);
-        let sheet = sheet_within(table, marking, &event.guards, &event.bounds, ROOM, BUDGET);
-        let ends = ends_of(&reply(sheet.unwrap()));
-        let parts = Parts::of(table).unwrap();
-        Ends {
-            held: held(&parts, marking),
-            last_edges: ends.iter().map(|end| end.record[0]).collect(),
-            parts,
-        }
-    }
-
     /// The reason, from what step answers to every set: it refuses by competing ends,
     /// forks and destinations in the order of levels 3 to 5.
     fn reason_by_steps(&self, board: &Board, node: u8) -> u8 {
@@ -719,83 +706,12 @@ impl Ends {
             _ => 6,
         }
     }
-
-    fn target(&self, end: usize) -> u8 {
-        self.parts.edges[usize::from(self.last_edges[end])][2]
-    }
-
-    /// The node's action if it is a pin, else itself.
-    fn destination(&self, node: u8) -> u8 {
-        match self.parts.nodes[usize::from(node)] {
-            [INPUT_PIN, action, ..] => action,
-            _ => node,
-        }
-    }
-
-    fn belongs_to(&self, end: usize, node: u8) -> bool {
-        let target = self.target(end);
-        target == node || self.destination(target) == node
-    }
-
-    /// Whether the destination agrees that is the node or its action.
-    fn own_rule(&self, choice: &[usize], node: u8) -> bool {
-        let node = self.destination(node);
-        let [kind, _, _, upper] = self.parts.nodes[usize::from(node)];
-        let held = self.held[usize::from(node)];
-        match kind {
-            ACTION => {
-                held == 0 && self.controls_agree(choice, node) && self.pins_agree(choice, node)
-            }
-            BUFFER | OUTGOING => held + self.taken_at(choice, node) <= upper,
-            _ => true,
-        }
-    }
-
-    fn controls_agree(&self, choice: &[usize], action: u8) -> bool {
-        let is_taken_once = |edge: usize| {
-            let is_on = |end: &&usize| usize::from(self.last_edges[**end]) == edge;
-            choice.iter().filter(is_on).count() == 1
-        };
-        let mut edges = self.parts.edges.iter().enumerate();
-        edges.all(|(edge, [kind, _, target, _])| {
-            (*kind, *target) != (CONTROL, action) || is_taken_once(edge)
-        })
-    }
-
-    fn pins_agree(&self, choice: &[usize], action: u8) -> bool {
-        let mut pins = self.parts.nodes.iter().enumerate();
-        pins.all(|(pin, [kind, owner, lower, upper])| {
-            let taken = self.taken_at(choice, pin as u8);
-            (*kind, *owner) != (INPUT_PIN, action) || (*lower..=*upper).contains(&taken)
-        })
-    }
-
-    fn taken_at(&self, choice: &[usize], node: u8) -> u8 {
-        let is_at = |end: &&usize| self.target(**end) == node;
-        choice.iter().filter(is_at).count() as u8
-    }
-}
-
-/// Per node, the number of its values in this marking; for an action, its running byte.
-fn held(parts: &Parts, marking: &[u8]) -> Vec<u8> {
-    let mut place = 4;
-    let mut held = Vec::new();
-    for [kind, ..] in &parts.nodes {
-        let (count, bytes) = match *kind {
-            ACTION => (marking[place], 1),
-            INPUT_PIN..=OUTGOING => (marking[place], 1 + 4 * usize::from(marking[place])),
-            _ => (0, 0),
-        };
-        held.push(count);
-        place += bytes;
-    }
-    held
 }
 
 #[test]
 fn some_reasons_are_for_some_kinds_only() {
     let mut pins = 0;
-    for_each_reason(24, 600, 9, |event, board, node, reason| {
+    for_each_reason(24, 1_000, 9, |event, board, node, reason| {
         let parts = Parts::of(&event.table).unwrap();
         let record = parts.nodes.get(usize::from(node));
         let possible: &[u8] = match record.map_or(0, |record| record[0]) {

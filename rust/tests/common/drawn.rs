@@ -103,9 +103,34 @@ impl Drawing {
         buffer
     }
 
+    /// A match: its action, and a pin for each seat with the fewest and the most players that it takes.
+    pub fn game<const SEATS: usize>(&mut self, seats: [(u8, u8); SEATS]) -> (u8, [u8; SEATS]) {
+        let action = self.node(ACTION, 0);
+        (action, seats.map(|(lower, upper)| self.parts.add_pin(INPUT_PIN, action, lower, upper)))
+    }
+
+    /// A queue in which these players wait, the first of them in front.
+    pub fn queue(&mut self, players: &[u32]) -> u8 {
+        let queue = self.node(BUFFER, 4);
+        self.held.extend(players.iter().map(|player| (queue, *player)));
+        queue
+    }
+
+    /// A list of one name, which is there already.
+    pub fn full_list(&mut self) -> u8 {
+        let list = self.node(BUFFER, 1);
+        self.held.push((list, 1));
+        list
+    }
+
     /// With a token on each edge of an initial node.
     pub fn point(&self) -> Point {
         Point::of(&self.parts, &self.held)
+    }
+
+    /// With so many tokens on each edge of an initial node.
+    pub fn with_tokens(&self, tokens: &[u8]) -> Point {
+        Point { marking: marking(&self.parts, &self.held, tokens), ..self.point() }
     }
 
     /// The answer that is the marking with these values, and these tokens on the edges of initial nodes.
@@ -145,13 +170,25 @@ pub fn framed(body: &[u8]) -> Vec<u8> {
     [&(body.len() as u16).to_be_bytes()[..], body].concat()
 }
 
-/// A sheet's ends: last edge, value, number of paths.
-pub fn listed(sheet: &[u8]) -> Vec<(u8, Option<u32>, u8)> {
+/// A sheet's ends: last edge, value, paths.
+pub fn decoded(sheet: &[u8]) -> Vec<(u8, Option<u32>, Vec<Vec<u8>>)> {
     let mut ends = Vec::new();
     let mut rest = &sheet[4..];
-    while let [edge, has_value, a, b, c, d, paths, after @ ..] = rest {
-        ends.push((*edge, Some(u32::from_be_bytes([*a, *b, *c, *d])).filter(|_| *has_value == 1), *paths));
-        rest = (0..*paths).fold(after, |rest, _| &rest[1 + usize::from(rest[0])..]);
+    while let [edge, has_value, a, b, c, d, count, after @ ..] = rest {
+        let value = Some(u32::from_be_bytes([*a, *b, *c, *d])).filter(|_| *has_value == 1);
+        let mut paths = Vec::new();
+        rest = after;
+        for _ in 0..*count {
+            let (path, after) = rest[1..].split_at(usize::from(rest[0]));
+            paths.push(path.to_vec());
+            rest = after;
+        }
+        ends.push((*edge, value, paths));
     }
     ends
+}
+
+/// The same with the number of paths alone.
+pub fn listed(sheet: &[u8]) -> Vec<(u8, Option<u32>, u8)> {
+    decoded(sheet).into_iter().map(|(edge, value, paths)| (edge, value, paths.len() as u8)).collect()
 }

@@ -2,7 +2,9 @@
 
 #![allow(dead_code)] // each test uses its part
 
+pub mod arrivals;
 pub mod drawn;
+pub mod held;
 pub mod limits;
 pub mod pairings;
 pub mod picks;

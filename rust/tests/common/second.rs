@@ -102,7 +102,7 @@ pub struct Second {
     rivals: Vec<u64>,
     /// Per edge its offers, once they are made.
     made: Vec<Option<Vec<usize>>>,
-    /// The ends, in the paper's order.
+    /// The ends in order: by group, which is the target node, last edge and paths.
     ends: Vec<usize>,
     forks: Vec<Rule>,
     /// By node.
@@ -112,6 +112,15 @@ pub struct Second {
 impl Second {
     /// None if a size is passed.
     pub fn of(table: &[u8], marking: &[u8], guards: &[u8], bounds: &[u8]) -> Option<Second> {
+        Second::ordered(table, marking, guards, bounds, Second::target)
+    }
+
+    /// The same with the ends as they stood before they were grouped by target: by last edge and paths.
+    pub fn ungrouped(table: &[u8], marking: &[u8], guards: &[u8], bounds: &[u8]) -> Option<Second> {
+        Second::ordered(table, marking, guards, bounds, |_, _| 0)
+    }
+
+    fn ordered(table: &[u8], marking: &[u8], guards: &[u8], bounds: &[u8], group: fn(&Second, usize) -> usize) -> Option<Second> {
         let parts = Parts::of(table)?;
         let mut second = Second {
             held: Held::read(&parts, marking),
@@ -129,7 +138,7 @@ impl Second {
             second.offers_on(edge)?;
         }
         let mut ends: Vec<usize> = (0..second.offers.len()).filter(|offer| !is_control_node(second.kind(second.target(*offer)))).collect();
-        ends.sort_by_key(|end| (second.offers[*end].edge, second.offers[*end].paths.clone()));
+        ends.sort_by_key(|end| (group(&second, *end), second.offers[*end].edge, second.offers[*end].paths.clone()));
         second.ends = ends;
         second.forks = second.fork_rules();
         second.destinations = (0..second.parts.nodes.len()).map(|node| second.destination_rules(node)).collect();
@@ -294,6 +303,12 @@ impl Second {
     /// The targets of the ends, in their order.
     pub fn targets(&self) -> Vec<u8> {
         self.ends.iter().map(|end| self.target(*end) as u8).collect()
+    }
+
+    /// For each end, in order, its number among those of the same point that are in another order.
+    pub fn numbers_in(&self, other: &Second) -> Vec<u8> {
+        let number = |end: &usize| other.ends.iter().position(|offer| offer == end).expect("the same ends") as u8;
+        self.ends.iter().map(number).collect()
     }
 
     /// The first acceptable choice, with a node named the first that has an end of it.

@@ -50,7 +50,7 @@ fn call(rng: &mut Rng, seen: &mut Seen, Event { table, marking, guards, bounds, 
 }
 
 /// Picks, with an end more or less or with some of their ends alone, and any choices.
-fn choices(rng: &mut Rng, board: &Board) -> Vec<Vec<u8>> {
+pub fn choices(rng: &mut Rng, board: &Board) -> Vec<Vec<u8>> {
     let mut choices: Vec<Vec<u8>> = (0..6).map(|_| choice(rng, board.ends())).collect();
     let node = rng.one_of(&board.targets()).unwrap_or(0);
     for node in [NO_NODE, node] {

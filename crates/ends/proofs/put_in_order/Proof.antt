@@ -11,23 +11,23 @@ trace-requires c κs = search needs
 
 sort-slots-requires : tie.Need-sort-slots-requires
 sort-slots-requires c κs =
-    let a = c .before .before .before .before .before .before .before .before .before .before .before .before .before .before .before .before .before .before .args in
-    let p = c .before .before .before .before .before .before .before .before .before .before .before .before .before .before .before .before .before .before .pre in
+    let a = c .before .before .before .before .before .before .before .before .before .before .before .before .before .before .before .before .before .before .before .args in
+    let p = c .before .before .before .before .before .before .before .before .before .before .before .before .before .before .before .before .before .before .before .pre in
     let k = c .before .before .before .before .before .before .before .trace in
-    ((p .0 .1, (record { lengths = omega (arith, k .kept, p .1 .1 .1 .lengths); cells-there = omega (arith, k .kept, p .1 .1 .1 .cells-there) }, p .1 .0)), traced-fit (a .last .now) (a .many .now) (a .before .now) (a .found .now) (p .0 .1 .few) (k .ensures))
+    ((p .0 .1, (record { lengths = omega (arith, k .kept, p .1 .1 .1 .1 .lengths); cells-there = omega (arith, k .kept, p .1 .1 .1 .1 .cells-there) }, p .1 .0)), traced-fit (a .last .now) (a .many .now) (a .before .now) (a .found .now) (p .0 .1 .few) (k .ensures))
 
 sort-ends-requires : tie.Need-sort-ends-requires
 sort-ends-requires c κs =
-    let a = c .before .before .before .before .before .before .before .before .before .before .before .before .before .before .before .before .before .before .before .before .before .before .before .before .before .args in
-    let p = c .before .before .before .before .before .before .before .before .before .before .before .before .before .before .before .before .before .before .before .before .before .before .before .before .before .pre in
+    let a = c .before .before .before .before .before .before .before .before .before .before .before .before .before .before .before .before .before .before .before .before .before .before .before .before .before .before .args in
+    let p = c .before .before .before .before .before .before .before .before .before .before .before .before .before .before .before .before .before .before .before .before .before .before .before .before .before .before .pre in
     let k = c .before .before .before .before .before .before .before .before .before .before .before .before .before .before .trace in
     let s = c .before .before .before .before .before .before .sort-slots in (
       record {
-        lasts = p .0 .0 .lasts;
+        keys-there = p .1 .1 .1 .0;
         numbers = p .0 .1 .numbers;
         there = p .0 .1 .there;
         blocks = omega (arith, s .kept, p .1 .0);
-        room = record { lengths = omega (arith, k .kept, p .1 .1 .1 .lengths); cells-there = omega (arith, k .kept, p .1 .1 .1 .cells-there) };
+        room = record { lengths = omega (arith, k .kept, p .1 .1 .1 .1 .lengths); cells-there = omega (arith, k .kept, p .1 .1 .1 .1 .cells-there) };
       },
       (slots-read (a .many .now) (a .found .now) _ _ _ (a .n) (p .0 .1 .few) (p .0 .1 .rows) (traced-fit (a .last .now) (a .many .now) (a .before .now) (a .found .now) (p .0 .1 .few) (k .ensures)) (s .ensures), (p .0 .1 .few, p .1 .1 .0)),
     )

@@ -1,5 +1,6 @@
 //! What the tests share: kinds, hex, bounds lists, refusals, the paper's small event,
-//! points of hand-made tables, sheets taken apart and the points of random events.
+//! points of hand-made tables, sheets taken apart, rule 3 as they tell it, and the points
+//! of random events.
 
 #![allow(dead_code)]
 
@@ -184,6 +185,96 @@ pub fn ends_of(sheet: &[u8]) -> Vec<End> {
         });
     }
     ends
+}
+
+/// What a sheet, a table and a marking tell of the ends, and of rule 3 for them.
+pub struct Ends {
+    parts: Parts,
+    /// Per node, the number of its values; for an action, whether it runs.
+    held: Vec<u8>,
+    /// Per end, its last edge.
+    pub last_edges: Vec<u8>,
+}
+
+impl Ends {
+    pub fn of(parts: &Parts, marking: &[u8], ends: &[End]) -> Ends {
+        Ends {
+            parts: parts.clone(),
+            held: held(parts, marking),
+            last_edges: ends.iter().map(|end| end.record[0]).collect(),
+        }
+    }
+
+    pub fn target(&self, end: usize) -> u8 {
+        self.parts.edges[usize::from(self.last_edges[end])][2]
+    }
+
+    /// The node's action if it is a pin, else itself.
+    pub fn destination(&self, node: u8) -> u8 {
+        match self.parts.nodes[usize::from(node)] {
+            [INPUT_PIN, action, ..] => action,
+            _ => node,
+        }
+    }
+
+    pub fn belongs_to(&self, end: usize, node: u8) -> bool {
+        let target = self.target(end);
+        target == node || self.destination(target) == node
+    }
+
+    /// Whether the destination agrees that is the node or its action.
+    pub fn own_rule(&self, choice: &[usize], node: u8) -> bool {
+        let node = self.destination(node);
+        let [kind, _, _, upper] = self.parts.nodes[usize::from(node)];
+        let held = self.held[usize::from(node)];
+        match kind {
+            ACTION => {
+                held == 0 && self.controls_agree(choice, node) && self.pins_agree(choice, node)
+            }
+            BUFFER | OUTGOING => held + self.taken_at(choice, node) <= upper,
+            _ => true,
+        }
+    }
+
+    fn controls_agree(&self, choice: &[usize], action: u8) -> bool {
+        let is_taken_once = |edge: usize| {
+            let is_on = |end: &&usize| usize::from(self.last_edges[**end]) == edge;
+            choice.iter().filter(is_on).count() == 1
+        };
+        let mut edges = self.parts.edges.iter().enumerate();
+        edges.all(|(edge, [kind, _, target, _])| {
+            (*kind, *target) != (CONTROL, action) || is_taken_once(edge)
+        })
+    }
+
+    fn pins_agree(&self, choice: &[usize], action: u8) -> bool {
+        let mut pins = self.parts.nodes.iter().enumerate();
+        pins.all(|(pin, [kind, owner, lower, upper])| {
+            let taken = self.taken_at(choice, pin as u8);
+            (*kind, *owner) != (INPUT_PIN, action) || (*lower..=*upper).contains(&taken)
+        })
+    }
+
+    fn taken_at(&self, choice: &[usize], node: u8) -> u8 {
+        let is_at = |end: &&usize| self.target(**end) == node;
+        choice.iter().filter(is_at).count() as u8
+    }
+}
+
+/// Per node, the number of its values in this marking; for an action, its running byte.
+fn held(parts: &Parts, marking: &[u8]) -> Vec<u8> {
+    let mut place = 4;
+    let mut held = Vec::new();
+    for [kind, ..] in &parts.nodes {
+        let (count, bytes) = match *kind {
+            ACTION => (marking[place], 1),
+            INPUT_PIN..=OUTGOING => (marking[place], 1 + 4 * usize::from(marking[place])),
+            _ => (0, 0),
+        };
+        held.push(count);
+        place += bytes;
+    }
+    held
 }
 
 /// The number in these bytes.
