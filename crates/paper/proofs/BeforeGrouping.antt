@@ -9,7 +9,7 @@ use mathlib.Core.Bool.{Bool, true, false, not, _&&_}
 use mathlib.Core.Logic.{_⊎_, inl, inr, ⊎-elim}
 use mathlib.Core.List.{List}
 use mathlib.Core.Option.{Option, none, some}
-use lib.Dec.{leb, ltb, eqb}
+use lib.Dec.{ltb, eqb}
 use lib.ListN.{length}
 use borrow.Author.Tests.{eqb-true}
 use Rattle.paper.specs.Lists.{all, keep}
@@ -17,7 +17,7 @@ use Rattle.paper.specs.Answers.{Answer, refused, good, _>>=_, need, know
 use Rattle.paper.specs.Limits.{limits}
 use Rattle.paper.specs.Table.{target, tableFine}
 use Rattle.paper.specs.Marking.{Marking, encode, marking}
-use Rattle.paper.specs.Offers.{Offer, lastEdge, paths, sortedPaths, guardsFine, boundsFine, Terms, goesOver, offers, isEnd, targetOf, thenBy, lex, sort, endOrder, ends, sizesFine}
+use Rattle.paper.specs.Offers.{Offer, lastEdge, sortedPaths, guardsFine, boundsFine, Terms, goesOver, offers, isEnd, targetOf, thenBy, lex, sort, endOrder, ends, sizesFine}
 use Rattle.paper.specs.Choices.{Board, boardOf, board, howMany, arrivals, next}
 use Rattle.paper.specs.Operations.{PickIf, Pick, WhyIf, Why, rising, choiceOf, stepOf, step}
 use Rattle.paper.proofs.Members.{In, in-keep, keep-in, Distinct, distinct-keep}
@@ -25,6 +25,7 @@ use Rattle.paper.proofs.Sameness.{in-elem, distinct-offers}
 use Rattle.paper.proofs.Orders.{Lawful, compare-lawful, compare-exact, compare-same, lex-lawful, pair-lawful, then-eq, sort-length, sort-in, in-sort, sort-distinct, sort-sorts, sorted-rises, Rising, rising-keep, rising-by, rising-unique}
 use Rattle.paper.proofs.Ends.{in-ends, ends-in, ends-length, alike-offers, ends-once, ends-rise}
 use Rattle.paper.proofs.Boards.{board-good}
+use Rattle.paper.proofs.OtherBoards.{sizesFineBy, boardOfBy, boardBy}
 use Rattle.paper.proofs.Regrouped.{atNode, Regrouped, regrouped-back, SameEnds, inOrder, arrivals-same, next-same, judged-same, renumbered, none-for-same, reason-same}
 
 -- ---- the definitions before
@@ -34,25 +35,8 @@ endOrderBefore o p = thenBy (compare (lastEdge o) (lastEdge p)) (lex (lex compar
 pub endsBefore : List ℕ → List Offer → List Offer
 endsBefore t os = sort endOrderBefore (keep (isEnd t) os)
 
-sizesFineBefore : List ℕ → List Offer → Bool
-sizesFineBefore t os =
-    leb (length os) (limits .mostOffers) && all (λ o. leb (length (paths o)) (limits .mostPaths)) os
-    && leb (length (endsBefore t os)) (limits .mostEnds)
-
-boardOfBefore : List ℕ → Marking → Terms → Answer Board
-boardOfBefore t m w = do
-  _ ← need 6 (not (m .ended))
-  _ ← need 7 (guardsFine t (w .guards))
-  _ ← need 18 (boundsFine t (w .bounds))
-  let os = offers t (goesOver w) m
-  _ ← need 8 (sizesFineBefore t os)
-  good (record { table = t; current = m; allOffers = os; allEnds = endsBefore t os })
-
 pub boardBefore : List ℕ → List ℕ → Terms → Answer Board
-boardBefore t b w = do
-  _ ← tableFine t limits
-  m ← known 5 (marking t b)
-  boardOfBefore t m w
+boardBefore = boardBy offers endsBefore
 
 pub stepBefore : List ℕ → List ℕ → Terms → List ℕ → Answer (List ℕ)
 stepBefore t b w ks = do
@@ -136,17 +120,17 @@ abbrev pub isChoice : Board → List ℕ → Bool
 isChoice d ks = rising ks && all (λ k. ltb k (howMany d)) ks
 
 module _ (t b : List ℕ) (w : Terms) where
-  sizes-before : (m : Marking) → sizesFineBefore t (offers t (goesOver w) m) ≡ sizesFine t (offers t (goesOver w) m)
-  unfolding sizesFineBefore sizesFine
+  sizes-before : (m : Marking) → sizesFineBy endsBefore t (offers t (goesOver w) m) ≡ sizesFine t (offers t (goesOver w) m)
+  unfolding sizesFineBy sizesFine
   sizes-before m = rw (before-length t (goesOver w) m)
 
   -- refused as before, or the same but for the order of ends
   pub board-before : boardBefore t b w ≡ board t b w >>= (λ d. good (before d))
-  unfolding boardBefore board boardOfBefore boardOf
+  unfolding boardBefore boardBy board boardOfBy boardOf
   board-before = by (tableFine t limits) (marking t b)
     where
       by : (a : Answer (Unit {0})) (o : Option Marking)
-          → a >>= (λ u. known 5 o >>= (λ m. boardOfBefore t m w)) ≡ a >>= (λ u. known 5 o >>= (λ m. boardOf t m w)) >>= (λ d. good (before d))
+          → a >>= (λ u. known 5 o >>= (λ m. boardOfBy offers endsBefore t m w)) ≡ a >>= (λ u. known 5 o >>= (λ m. boardOf t m w)) >>= (λ d. good (before d))
       by (refused n p) o = refl
       by (good u) none = refl
       by (good u) (some m) = rw (sizes-before m) (rows (not (m .ended)) (guardsFine t (w .guards)) (boundsFine t (w .bounds)) (sizesFine t (offers t (goesOver w) m)) _)

@@ -15,15 +15,16 @@ use Rattle.paper.specs.Answers.{Answer, refused, good, _>>=_, need, know
 use Rattle.paper.specs.Limits.{limits}
 use Rattle.paper.specs.Table.{edges, kind, source, into, isJoin, isObject, isControlNode, tableFine}
 use Rattle.paper.specs.Marking.{Marking, encode, marking}
-use Rattle.paper.specs.Offers.{Offer, with, over, value, isSome, parts, same, makers, origins, share, oneRound, madeAt, ofOneStock, ofOneDecision, ofOneJoin, clash, compete, firsts, ways, handed, guardsFine, boundsFine, Terms, goesOver, offersOn, offers, ends, sizesFine, belongs}
+use Rattle.paper.specs.Offers.{Offer, with, over, value, isSome, parts, same, makers, origins, share, oneRound, madeAt, ofOneStock, ofOneDecision, ofOneJoin, clash, compete, firsts, ways, handed, Terms, goesOver, offersOn, offers, ends, sizesFine, belongs}
 use Rattle.paper.specs.Choices.{Board, boardOf, board, howMany, end, taken, takenEnds, rule1, rule2, rule3, rules, acceptable, next, Before, FirstOf}
-use Rattle.paper.specs.Operations.{named, wanted, PickOn, PickIf, Pick, rising, choiceOf, sheetBytes, sheet, stepOf, step}
+use Rattle.paper.specs.Operations.{named, wanted, PickIf, Pick, rising, choiceOf, sheetBytes, sheet, stepOf, step}
 use Rattle.paper.proofs.Bools.{never, and-true, and-both, false-if, iff}
 use Rattle.paper.proofs.Members.{In, here, later, in-one, in-below, any-in, in-any, find-none, none-found, any-count, keep-alike, any-alike, each-alike, gather-alike}
 use Rattle.paper.proofs.Lengths.{gather-each}
 use Rattle.paper.proofs.Origins.{way-of, way-from, in-into}
 use Rattle.paper.proofs.Values.{value-on, with-parts, handed-parts, one-object}
 use Rattle.paper.proofs.OneRound.{round-valued}
+use Rattle.paper.proofs.OtherBoards.{sizesFineBy, boardOfBy, boardBy}
 
 -- ---- the definitions before
 module _ (t : List ℕ) where
@@ -55,20 +56,8 @@ module _ (t : List ℕ) where
   pub offersBefore : (ℕ → Option ℕ → Bool) → Marking → List Offer
   offersBefore goes m = gather (offersOnBefore goes m (limits .longestPath)) (below (edges t))
 
-boardOfBefore : List ℕ → Marking → Terms → Answer Board
-boardOfBefore t m w = do
-  _ ← need 6 (not (m .ended))
-  _ ← need 7 (guardsFine t (w .guards))
-  _ ← need 18 (boundsFine t (w .bounds))
-  let os = offersBefore t (goesOver w) m
-  _ ← need 8 (sizesFine t os)
-  good (record { table = t; current = m; allOffers = os; allEnds = ends t os })
-
 pub boardBefore : List ℕ → List ℕ → Terms → Answer Board
-boardBefore t b w = do
-  _ ← tableFine t limits
-  m ← known 5 (marking t b)
-  boardOfBefore t m w
+boardBefore = boardBy offersBefore ends
 
 pub sheetBefore : List ℕ → List ℕ → Terms → Answer (List ℕ)
 sheetBefore t b w = do
@@ -235,16 +224,16 @@ module _ (t : List ℕ) (goes : ℕ → Option ℕ → Bool) (m : Marking) (g : 
 
 -- ---- boards and sheets
 module _ (t b : List ℕ) (w : Terms) where
-  board-of-before : tableFine t limits ≡ good tt → (m : Marking) → boardOf t m w ≡ boardOfBefore t m w
-  unfolding boardOf boardOfBefore
+  board-of-before : tableFine t limits ≡ good tt → (m : Marking) → boardOf t m w ≡ boardOfBy offersBefore ends t m w
+  unfolding boardOf boardOfBy sizesFine sizesFineBy
   board-of-before g m = rw (offers-as-before t (goesOver w) m g)
 
   pub board-as-before : board t b w ≡ boardBefore t b w
-  unfolding board boardBefore
+  unfolding board boardBefore boardBy
   board-as-before = by (tableFine t limits) refl (marking t b)
     where
       by : (a : Answer (Unit {0})) → tableFine t limits ≡ a → (o : Option Marking)
-          → a >>= (λ u. known 5 o >>= (λ m. boardOf t m w)) ≡ a >>= (λ u. known 5 o >>= (λ m. boardOfBefore t m w))
+          → a >>= (λ u. known 5 o >>= (λ m. boardOf t m w)) ≡ a >>= (λ u. known 5 o >>= (λ m. boardOfBy offersBefore ends t m w))
       by (refused n p) e o = refl
       by (good u) e none = refl
       by (good u) e (some m) = board-of-before e m

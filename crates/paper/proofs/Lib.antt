@@ -32,6 +32,7 @@ pub mod Choices
 pub mod Search
 pub mod Levels
 pub mod BoundsLists
+pub mod OtherBoards
 pub mod BeforeBounds
 pub mod OneRound
 pub mod BeforeOneRound

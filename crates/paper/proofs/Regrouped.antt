@@ -23,7 +23,7 @@ use Rattle.paper.proofs.Lengths.{each-below}
 use Rattle.paper.proofs.Origins.{in-into}
 use Rattle.paper.proofs.Sameness.{elem-in, in-elem}
 use Rattle.paper.proofs.Taken.{taken-in}
-use Rattle.paper.proofs.Bits.{word-of}
+use Rattle.paper.proofs.Bits.{word-of, same-digits}
 use Rattle.paper.proofs.OneMarking.{content, same-fields}
 
 -- ---- lists
@@ -106,6 +106,10 @@ module _ (d : Board) (once : Distinct (d .allEnds)) where
       iff _ _
       (λ h. let r = taken-end c (elem-in (takenEnds d c) h) in let s = in-taken c (r .1) in ap (has c) (one-number k (r .0) l (s .0) (r .2)) ∙ s .1)
       (λ h. in-elem (end-taken c (keep-in (has c) (below-in (howMany d) l) h)))
+
+  -- so a set of ends has one number
+  pub one-choice : (c x : ℕ) → c < 2 ^ howMany d → x < 2 ^ howMany d → ((o : Offer) → elem o (takenEnds d c) ≡ elem o (takenEnds d x)) → c ≡ x
+  one-choice c x lc lx s = same-digits c x (howMany d) lc lx (λ k l. sym (taken-if c k l) ∙ s (end d k) ∙ taken-if x k l)
 
   -- they stand as in the list of ends
   taken-kept : (c : ℕ) → takenEnds d c ≡ keep (λ o. elem o (takenEnds d c)) (d .allEnds)
