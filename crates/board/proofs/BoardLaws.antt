@@ -18,13 +18,13 @@ use Rattle.paper.proofs.Origins.{in-offers}
 use Rattle.paper.proofs.Sameness.{elem-in, in-elem, on-last}
 use Rattle.table.specs.Reading.{tableRead}
 use Rattle.table.proofs.Reading.{read-refused}
-use Rattle.rows.specs.Sets.{nth}
-use Rattle.rows.proofs.Sets.{member}
-use Rattle.rows.specs.declared.Offers.{Offers}
+use Rattle.offers.specs.Sets.{nth}
+use Rattle.offers.proofs.Sets.{member}
+use Rattle.offers.specs.declared.Offers.{Offers}
 use Rattle.ends.specs.declared.EndsAnswer.{EndsAnswer}
 use Rattle.ends.specs.declared.EndsAnswer.the-variants.{Good, Refused}
-use Rattle.seating.proofs.Rules.{Told}
-use Rattle.holding.specs.declared.Held.{Held}
+use Rattle.ends_masks.proofs.Rules.{Told}
+use Rattle.marking_held.specs.declared.Held.{Held}
 use Rattle.board.specs.Reading.{Seats, Laid, BoardRead}
 
 -- ---- rows 1 to 8

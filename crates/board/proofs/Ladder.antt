@@ -21,21 +21,21 @@ use Rattle.table.specs.Reading.{tableRead}
 use Rattle.table.proofs.Reading.{read-fine, read-good}
 use Rattle.marking.specs.declared.reading.MarkingAnswer.{MarkingAnswer}
 use Rattle.marking.specs.declared.reading.MarkingAnswer.the-variants.{Ended, Refused as NoMarking}
-use Rattle.rows.specs.Rows.{Rows, fine}
+use Rattle.offers.specs.Rows.{Rows, fine}
 use Rattle.terms.specs.Terms.{termsFine, Ties}
 use Rattle.terms.proofs.TermLaws.{terms-fine}
 use Rattle.terms.proofs.GuardLaws.{guards-long}
-use Rattle.flow.specs.Stages.{Gates, Input, Whole, onEdge}
-use Rattle.rows.specs.Struct.{rowsOf, Full}
-use Rattle.flow.proofs.Inputs.{good-flat}
-use Rattle.holding.specs.Holding.{HeldRead}
-use Rattle.holding.specs.declared.Held.{Held}
-use Rattle.holding.specs.TakenUp.{Holding, LiveHeld}
-use Rattle.holding.proofs.TakenUp.{refused-read, ended-read}
+use Rattle.offers_all.specs.Stages.{Gates, Input, Whole, onEdge}
+use Rattle.offers.specs.Struct.{rowsOf, Full}
+use Rattle.offers_all.proofs.Inputs.{good-flat}
+use Rattle.marking_held.specs.Holding.{HeldRead}
+use Rattle.marking_held.specs.declared.Held.{Held}
+use Rattle.marking_held.specs.TakenUp.{Holding, LiveHeld}
+use Rattle.marking_held.proofs.TakenUp.{refused-read, ended-read}
 use Rattle.ends.specs.declared.EndsAnswer.{EndsAnswer}
 use Rattle.ends.specs.declared.EndsAnswer.the-variants.{Good, Refused}
 use Rattle.ends.specs.Ends.{Listed, Arranged}
-use Rattle.rows.specs.declared.Offers.{Offers}
+use Rattle.offers.specs.declared.Offers.{Offers}
 use Rattle.board.specs.Starts.{Begun}
 use Rattle.board.specs.Reading.{Seats, Laid, BoardRead}
 use Rattle.board.proofs.StartLaws.{starts-are}

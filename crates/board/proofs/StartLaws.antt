@@ -15,9 +15,9 @@ use Rattle.paper.proofs.Bytes.{four-back}
 use Rattle.paper.proofs.Lengths.{drop-four}
 use Rattle.paper.specs.Bytes.{wordAt}
 use Rattle.marking.specs.Values.{ValuesNoted}
-use Rattle.holding.specs.Holding.{NodesHeld, EdgesHeld}
-use Rattle.holding.proofs.HoldingLaws.{set-more}
-use Rattle.rows.specs.Rows.{startOf}
+use Rattle.marking_held.specs.Holding.{NodesHeld, EdgesHeld}
+use Rattle.marking_held.proofs.HoldingLaws.{set-more}
+use Rattle.offers.specs.Rows.{startOf}
 use Rattle.board.specs.Starts.{startCode, Begun}
 
 -- ---- the code of one edge

@@ -7,14 +7,14 @@ use lib.ListN.{length}
 use Rattle.paper.specs.Answers.{refused, good}
 use Rattle.paper.specs.Offers.{Offer, Terms}
 use Rattle.paper.specs.Choices.{board, Board}
-use Rattle.rows.specs.declared.Offers.{Offers}
-use Rattle.rows.specs.Struct.{rowsOf, Full}
+use Rattle.offers.specs.declared.Offers.{Offers}
+use Rattle.offers.specs.Struct.{rowsOf, Full}
 use Rattle.ends.specs.declared.EndsAnswer.{EndsAnswer}
 use Rattle.ends.specs.declared.EndsAnswer.the-variants.{Good, Refused}
 use Rattle.ends.specs.Ends.{Listed}
-use Rattle.seating.specs.Seating.{Seated}
-use Rattle.holding.specs.declared.Held.{Held}
-use Rattle.holding.specs.TakenUp.{Holding}
+use Rattle.ends_masks.specs.Seating.{Seated}
+use Rattle.marking_held.specs.declared.Held.{Held}
+use Rattle.marking_held.specs.TakenUp.{Holding}
 
 -- the slices lent for the ends in order, each a row of the offers, and for their paths in order, each in a block of 16 cells
 pub record Seats : Type 0 where

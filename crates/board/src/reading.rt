@@ -1,9 +1,9 @@
 // Rows 5 to 8: the board of a marking, guards and bounds, in lent slices but for the offers.
 use super::starts::first_offers;
 use ends::EndsAnswer;
-use flow::Built;
 use marking::MarkingAnswer;
-use rows::Offers;
+use offers::Offers;
+use offers_all::Built;
 use table::Table;
 use terms::TermsAnswer;
 ghost use mathlib.Core.Path.{_≡_};
@@ -18,11 +18,11 @@ ghost use Rattle.paper.specs.Offers.{terms, offers as offersOf, ends as endsOf}
 ghost use Rattle.ends.specs.Ends.{Arranged};
 ghost use Rattle.table.specs.Reading.{tableRead};
 ghost use Rattle.ends.specs.declared.EndsAnswer.the-variants.{Refused};
-ghost use Rattle.rows.specs.Rows.{Ranges};
+ghost use Rattle.offers.specs.Rows.{Ranges};
 ghost use Rattle.terms.specs.Terms.{termsFine, Ties};
-ghost use Rattle.flow.specs.Stages.{Gates, Result, Whole, onEdge};
-ghost use Rattle.rows.specs.Struct.{rowsOf, Full};
-ghost use Rattle.holding.specs.TakenUp.{held, HeldRoom, Holding, LiveHeld};
+ghost use Rattle.offers_all.specs.Stages.{Gates, Result, Whole, onEdge};
+ghost use Rattle.offers.specs.Struct.{rowsOf, Full};
+ghost use Rattle.marking_held.specs.TakenUp.{held, HeldRoom, Holding, LiveHeld};
 ghost use Rattle.board.specs.Reading.{seats, SeatsRoom, BoardRead};
 
 // What sheet, pick, why and step are asked about: all offers, and the number of ends or the refusal.
@@ -76,7 +76,7 @@ fn offered(
     let mut codes = [0u8; Table::MOST_EDGES];
     let mut values = [0u32; Table::MOST_EDGES];
     first_offers(t, table, b, from, kept, tokens, &mut codes, &mut values);
-    flow::build(t, table, g, bounds, &codes, &values, links)
+    offers_all::build(t, table, g, bounds, &codes, &values, links)
 }
 
 // The ends of what was built, where the offers' paths go on from `links`.
@@ -162,7 +162,7 @@ pub fn read(
     requires { ⌜ (tableRead (now t) ≡ good table) × HeldRoom (now t) (held (now from) (now kept) (now runs) (now tokens)) × SeatsRoom (seats (now ends) (now order) (now lens) (now cells)) ⌝ }
     ensures { λ r. ⌜ BoardRead (now (t .entry)) (now (b .entry)) (terms (now (g .entry)) (now (bounds .entry))) (r .offers) (held (now (from .exit)) (now (kept .exit)) (now (runs .exit)) (now (tokens .exit))) (seats (now (ends .exit)) (now (order .exit)) (now (lens .exit)) (now (cells .exit))) (r .answer) ⌝ }
 {
-    match holding::take_up(t, table, b, from, kept, runs, tokens) {
+    match marking_held::take_up(t, table, b, from, kept, runs, tokens) {
         MarkingAnswer::Live => {}
         MarkingAnswer::Ended => return refused(6, 0),
         MarkingAnswer::Refused(number, place) => return refused(number, place),

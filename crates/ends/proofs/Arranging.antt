@@ -11,13 +11,13 @@ use Rattle.paper.specs.Table.{edges}
 use Rattle.paper.specs.Offers.{Offer, first, paths, sortedPaths, offers}
 use Rattle.paper.proofs.Ends.{ends-length}
 use Rattle.paper.proofs.Lengths.{length-each}
-use Rattle.rows.specs.Sets.{nth}
-use Rattle.rows.specs.Rows.{Ranges}
-use Rattle.flow.specs.Stages.{Gates, onEdge}
-use Rattle.paths.specs.Blocks.{Fit, pathIn, byPath, pathsOf}
-use Rattle.paths.proofs.Walks.{length-run}
-use Rattle.paths.proofs.Insertion.{in-order-inside}
-use Rattle.paths.proofs.Slots.{paths-few, paths-over, paths-under, traced-fit}
+use Rattle.offers.specs.Sets.{nth}
+use Rattle.offers.specs.Rows.{Ranges}
+use Rattle.offers_all.specs.Stages.{Gates, onEdge}
+use Rattle.ends_paths.specs.Blocks.{Fit, pathIn, byPath, pathsOf}
+use Rattle.ends_paths.proofs.Walks.{length-run}
+use Rattle.ends_paths.proofs.Insertion.{in-order-inside}
+use Rattle.ends_paths.proofs.Slots.{paths-few, paths-over, paths-under, traced-fit}
 use Rattle.ends.specs.Ends.{Readable, Stored, Told}
 use Rattle.ends.specs.declared.EndsAnswer.the-variants.{Good, Refused}
 use Rattle.ends.specs.Slots.{byEnd, listOf, endRows}

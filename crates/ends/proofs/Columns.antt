@@ -3,10 +3,10 @@ use mathlib.Core.Path.{refl}
 use mathlib.Core.List.{List}
 use Prim.Native.Nat.{ℕ, _≤_}
 use native.Mathlib.Omega.{arith}
-use Rattle.rows.specs.Rows.{Ranges}
-use Rattle.rows.specs.Struct.{rowsOf}
-use Rattle.rows.specs.declared.Offers.{Offers}
-use Rattle.paths.specs.Blocks.{Seen}
+use Rattle.offers.specs.Rows.{Ranges}
+use Rattle.offers.specs.Struct.{rowsOf}
+use Rattle.offers.specs.declared.Offers.{Offers}
+use Rattle.ends_paths.specs.Blocks.{Seen}
 
 pub seen-struct : (o : Offers) (links : List ℕ) → Seen (rowsOf o links) (o .last) (o .paths) links
 seen-struct o links = record { lasts = λ i. refl; numbers = λ i. refl; befores = λ i k. refl }

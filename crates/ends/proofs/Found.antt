@@ -11,11 +11,11 @@ use Rattle.paper.specs.Lists.{at, from, below, gather}
 use Rattle.paper.specs.Table.{edges, kind, target, isControlNode}
 use Rattle.paper.proofs.Lists.{below-more, below-split}
 use Rattle.paper.proofs.Lengths.{length-from, gather-append}
-use Rattle.rows.specs.Rows.{Ranges}
-use Rattle.rows.proofs.Segments.{gather-snoc}
-use Rattle.paths.specs.Blocks.{run}
-use Rattle.paths.proofs.Runs.{run-split, run-same}
-use Rattle.paths.proofs.Walks.{length-run}
+use Rattle.offers.specs.Rows.{Ranges}
+use Rattle.offers.proofs.Segments.{gather-snoc}
+use Rattle.ends_paths.specs.Blocks.{run}
+use Rattle.ends_paths.proofs.Runs.{run-split, run-same}
+use Rattle.ends_paths.proofs.Walks.{length-run}
 use Rattle.ends.specs.Slots.{endsOn, endRows, keyOf, Added, Keyed}
 
 -- ---- rows added

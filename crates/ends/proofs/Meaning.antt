@@ -15,13 +15,13 @@ use Rattle.paper.proofs.Members.{In, here, later, in-below, keep-none, entry-in
 use Rattle.paper.proofs.Sameness.{on-last}
 use Rattle.paper.proofs.Fuel.{path-short}
 use Rattle.paper.proofs.Lists.{keep-append}
-use Rattle.rows.specs.Sets.{nth}
-use Rattle.rows.specs.Rows.{Rows, Row}
-use Rattle.flow.specs.Stages.{Gates, onEdge, Whole}
-use Rattle.rows.proofs.Segments.{each-append, seg-nth, seg-len}
-use Rattle.paths.specs.Blocks.{Seen, run, pathIn, byPath, Tame, Back, pathsOf}
-use Rattle.paths.proofs.Insertion.{run-in}
-use Rattle.paths.proofs.Slots.{paths-under}
+use Rattle.offers.specs.Sets.{nth}
+use Rattle.offers.specs.Rows.{Rows, Row}
+use Rattle.offers_all.specs.Stages.{Gates, onEdge, Whole}
+use Rattle.offers.proofs.Segments.{each-append, seg-nth, seg-len}
+use Rattle.ends_paths.specs.Blocks.{Seen, run, pathIn, byPath, Tame, Back, pathsOf}
+use Rattle.ends_paths.proofs.Insertion.{run-in}
+use Rattle.ends_paths.proofs.Slots.{paths-under}
 use Rattle.ends.specs.Slots.{listOf, byEnd, Ordered, endsOn, endRows, keyOf, Keyed}
 use Rattle.ends.proofs.Order.{pair-compared, then-assoc}
 use Rattle.ends.proofs.Sorts.{each-each, keep-all, run-list, sort-each}

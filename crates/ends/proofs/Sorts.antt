@@ -10,7 +10,7 @@ use Rattle.paper.specs.Lists.{at, each, keep}
 use Rattle.paper.specs.Offers.{insert, sort}
 use Rattle.paper.proofs.Members.{In, here, later}
 use Rattle.paper.proofs.Orders.{in-sort}
-use Rattle.paths.specs.Blocks.{run}
+use Rattle.ends_paths.specs.Blocks.{run}
 
 -- ---- lists
 pub each-each : {A B C : Type 0} (f : B → C) (g : A → B) (xs : List A) → each f (each g xs) ≡ each (λ x. f (g x)) xs

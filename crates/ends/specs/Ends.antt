@@ -7,10 +7,10 @@ use Rattle.paper.specs.Lists.{at, gather}
 use Rattle.paper.specs.Limits.{limits}
 use Rattle.paper.specs.Marking.{Marking}
 use Rattle.paper.specs.Offers.{Offer, paths, sortedPaths, offers, ends}
-use Rattle.rows.specs.Sets.{nth}
-use Rattle.rows.specs.Rows.{Rows, Ranges}
-use Rattle.flow.specs.Stages.{Gates, onEdge, Whole}
-pub use Rattle.paths.specs.Blocks.{Seen, Fit}
+use Rattle.offers.specs.Sets.{nth}
+use Rattle.offers.specs.Rows.{Rows, Ranges}
+use Rattle.offers_all.specs.Stages.{Gates, onEdge, Whole}
+pub use Rattle.ends_paths.specs.Blocks.{Seen, Fit}
 use Rattle.ends.specs.declared.EndsAnswer.{EndsAnswer}
 use Rattle.ends.specs.declared.EndsAnswer.the-variants.{Good, Refused}
 

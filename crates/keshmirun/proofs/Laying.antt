@@ -9,12 +9,12 @@ use Rattle.paper.specs.Operations.{inRoom, Reply}
 use Rattle.paper.proofs.Boards.{board-good}
 use Rattle.paper.proofs.Bytes.{Bytes}
 use Rattle.paper.proofs.OneMarking.{read-is-good, encode-fits}
-use Rattle.rows.specs.declared.Offers.{Offers}
-use Rattle.holding.specs.declared.Held.{Held}
+use Rattle.offers.specs.declared.Offers.{Offers}
+use Rattle.marking_held.specs.declared.Held.{Held}
 use Rattle.board.specs.Reading.{Seats, SeatsRoom, Laid}
 use Rattle.board.proofs.BoardLaws.{laid-edges}
-use Rattle.picking.specs.Picking.{Pickable}
-use Rattle.stepping.specs.Stepping.{chosen, Standing}
+use Rattle.pick.specs.Picking.{Pickable}
+use Rattle.step.specs.Stepping.{chosen, Standing}
 
 -- ---- pick
 pub laid-pickable : {t b : List ℕ} {w : Terms} {o : Offers} {x : Held} {s : Seats} {n : ℕ} → Laid t b w o x s n → SeatsRoom s → Pickable t o (s .ends) n

@@ -11,8 +11,8 @@ use Rattle.paper.specs.Operations.{sheet, wanted, PickOn, PickIf, Pick, choiceO
 use Rattle.paper.proofs.Bools.{never, and-true}
 use Rattle.paper.proofs.Ladders.{no-good, row-good}
 use Rattle.paper.proofs.EmptyChoice.{unnamed-never-13, unnamed-picks}
-use Rattle.choosing.specs.Choice.{isChoice, choiceRead, numbers}
-use Rattle.choosing.proofs.Laws.{taken-numbers, written-reads, good-is, choice-is}
+use Rattle.choice.specs.Choice.{isChoice, choiceRead, numbers}
+use Rattle.choice.proofs.Laws.{taken-numbers, written-reads, good-is, choice-is}
 
 -- ---- step accepts what pick answers
 unrefused : (r : Answer (Unit {0})) → isGood r ≡ true → r ≡ good tt

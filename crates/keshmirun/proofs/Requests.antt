@@ -9,15 +9,15 @@ use Rattle.paper.specs.Offers.{Terms}
 use Rattle.paper.specs.Choices.{board}
 use Rattle.paper.specs.Operations.{sheet, step, PickOn, Pick, WhyIf, Why, packed, inRoom, Reply, Leaves}
 use Rattle.table.specs.Reading.{tableRead}
-use Rattle.rows.specs.declared.Offers.{Offers}
-use Rattle.holding.specs.declared.Held.{Held}
+use Rattle.offers.specs.declared.Offers.{Offers}
+use Rattle.marking_held.specs.declared.Held.{Held}
 use Rattle.ends.specs.declared.EndsAnswer.{EndsAnswer}
 use Rattle.ends.specs.declared.EndsAnswer.the-variants.{Good, Refused}
 use Rattle.board.specs.Reading.{Seats, SeatsRoom, Laid}
 use Rattle.board.proofs.BoardLaws.{board-refused, read-refusal, read-laid}
-use Rattle.listing.specs.Listing.{Shows, sheetShown}
-use Rattle.listing.proofs.Meaning.{sheet-shown, listed-measured}
-use Rattle.stepping.specs.Stepping.{chosen}
+use Rattle.sheet_write.specs.Listing.{Shows, sheetShown}
+use Rattle.sheet_write.proofs.Meaning.{sheet-shown, listed-measured}
+use Rattle.step.specs.Stepping.{chosen}
 use Rattle.keshmirun.specs.declared.asking.Request.{Request}
 use Rattle.keshmirun.specs.declared.asking.Request.the-variants.{Sheet, Pick as PickFor, Why as WhyFor, Step, Count}
 use Rattle.keshmirun.specs.Asking.{Counted, Responds, Read}

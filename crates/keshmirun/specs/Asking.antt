@@ -6,9 +6,9 @@ use Rattle.paper.specs.Answers.{Answer, refused, good}
 use Rattle.paper.specs.Offers.{Terms}
 use Rattle.paper.specs.Choices.{Board, board, howMany}
 use Rattle.paper.specs.Operations.{Leaves, Only, packed, sheet, Pick, Why, step}
-use Rattle.rows.specs.declared.Offers.{Offers}
+use Rattle.offers.specs.declared.Offers.{Offers}
 use Rattle.ends.specs.declared.EndsAnswer.{EndsAnswer}
-use Rattle.holding.specs.declared.Held.{Held}
+use Rattle.marking_held.specs.declared.Held.{Held}
 use Rattle.board.specs.Reading.{Seats, BoardRead}
 use Rattle.keshmirun.specs.declared.asking.Request.{Request}
 use Rattle.keshmirun.specs.declared.asking.Request.the-variants.{Sheet, Pick as PickFor, Why as WhyFor, Step, Count}

@@ -2,13 +2,13 @@
 // The table's bytes were read as a table.
 use board::Board;
 use ends::EndsAnswer;
-use holding::Held;
+use marking_held::Held;
 use table::Table;
 ghost use mathlib.Core.Path.{_≡_};
 ghost use Rattle.paper.specs.Answers.{good};
 ghost use Rattle.paper.specs.Offers.{terms};
 ghost use Rattle.table.specs.Reading.{tableRead};
-ghost use Rattle.holding.specs.TakenUp.{HeldFull};
+ghost use Rattle.marking_held.specs.TakenUp.{HeldFull};
 ghost use Rattle.board.specs.Reading.{seats, SeatsRoom};
 ghost use Rattle.keshmirun.specs.Asking.{Responds, Read};
 
@@ -45,12 +45,12 @@ fn respond(
         EndsAnswer::Refused(number, place) => return wire::pack(number, place, 0),
     };
     match request {
-        Request::Sheet => listing::show(board.offers, ends, order, lens, cells, n, out),
-        Request::Pick(node) => picking::pick(t, table, board.offers, ends, n, held, node, out),
-        Request::Why(node) => reasons::why(t, table, board.offers, ends, n, held, node, out),
-        Request::Step => stepping::step(t, table, b, choice, board.offers, ends, n, held, out),
+        Request::Sheet => sheet_write::show(board.offers, ends, order, lens, cells, n, out),
+        Request::Pick(node) => pick::pick(t, table, board.offers, ends, n, held, node, out),
+        Request::Why(node) => why::why(t, table, board.offers, ends, n, held, node, out),
+        Request::Step => step::step(t, table, b, choice, board.offers, ends, n, held, out),
         Request::Count(node, k) => {
-            reasons::states(t, table, board.offers, ends, n, held, node, k) as u64
+            why::states(t, table, board.offers, ends, n, held, node, k) as u64
         }
     }
 }
@@ -73,10 +73,10 @@ pub fn ask(
     let mut kept = [0u8; Table::MOST_NODES];
     let mut runs = [0u8; Table::MOST_NODES];
     let mut tokens = [0u8; Table::MOST_EDGES];
-    let mut ends = [0u8; rows::MOST_ENDS];
-    let mut order = [0u8; paths::BLOCKS];
-    let mut lens = [0u8; paths::BLOCKS];
-    let mut cells = [0u8; paths::CELLS];
+    let mut ends = [0u8; offers::MOST_ENDS];
+    let mut order = [0u8; ends_paths::BLOCKS];
+    let mut lens = [0u8; ends_paths::BLOCKS];
+    let mut cells = [0u8; ends_paths::CELLS];
     let board = board::read(
         t,
         table,

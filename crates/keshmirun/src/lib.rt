@@ -29,7 +29,7 @@ pub const NO_BOUNDS: [u8; 4] = [0, 2, 1, 0];
 pub extern "C" fn check(table: &[u8]) -> u64
     ensures { λ r. ⌜ Leaves (Only (checked (now (table .entry)))) r [] [] ⌝ }
 {
-    if let TableAnswer::Refused(number, place) = checking::read(table) {
+    if let TableAnswer::Refused(number, place) = table_read::read(table) {
         return wire::pack(number, place, 0);
     }
     wire::pack(0, 0, 0)
@@ -40,11 +40,11 @@ pub extern "C" fn check(table: &[u8]) -> u64
 pub extern "C" fn start(table: &[u8], values: &[u8], out: &mut [u8]) -> u64
     ensures { λ r. ⌜ Leaves (Only (started (now (table .entry)) (now (values .entry)))) r (now (out .entry)) (now (out .exit)) ⌝ }
 {
-    let x = match checking::read(table) {
+    let x = match table_read::read(table) {
         TableAnswer::Good(x) => x,
         TableAnswer::Refused(number, place) => return wire::pack(number, place, 0),
     };
-    delivering::start(table, x, values, out)
+    start_finish::start(table, x, values, out)
 }
 
 // The ends that are offered, in order, with their values and paths.
@@ -58,7 +58,7 @@ pub extern "C" fn sheet(
 ) -> u64
     ensures { λ r. ⌜ Leaves (Only (shown (now (table .entry)) (now (marking .entry)) (terms (now (guards .entry)) (now (bounds .entry))))) r (now (out .entry)) (now (out .exit)) ⌝ }
 {
-    let x = match checking::read(table) {
+    let x = match table_read::read(table) {
         TableAnswer::Good(x) => x,
         TableAnswer::Refused(number, place) => return wire::pack(number, place, 0),
     };
@@ -77,7 +77,7 @@ pub extern "C" fn pick(
 ) -> u64
     ensures { λ r. ⌜ Leaves (Pick (now (table .entry)) (now (marking .entry)) (terms (now (guards .entry)) (now (bounds .entry))) node) r (now (out .entry)) (now (out .exit)) ⌝ }
 {
-    let x = match checking::read(table) {
+    let x = match table_read::read(table) {
         TableAnswer::Good(x) => x,
         TableAnswer::Refused(number, place) => return wire::pack(number, place, 0),
     };
@@ -106,7 +106,7 @@ pub extern "C" fn why(
 ) -> u64
     ensures { λ r. ⌜ Leaves (Why (now (table .entry)) (now (marking .entry)) (terms (now (guards .entry)) (now (bounds .entry))) node) r (now (out .entry)) (now (out .exit)) ⌝ }
 {
-    let x = match checking::read(table) {
+    let x = match table_read::read(table) {
         TableAnswer::Good(x) => x,
         TableAnswer::Refused(number, place) => return wire::pack(number, place, 0),
     };
@@ -127,7 +127,7 @@ pub extern "C" fn why(
 pub fn visits(table: &[u8], marking: &[u8], guards: &[u8], bounds: &[u8], node: u8, k: usize) -> u64
     ensures { λ r. ⌜ Counted (board (now (table .entry)) (now (marking .entry)) (terms (now (guards .entry)) (now (bounds .entry)))) r ⌝ }
 {
-    let x = match checking::read(table) {
+    let x = match table_read::read(table) {
         TableAnswer::Good(x) => x,
         TableAnswer::Refused(number, place) => return wire::pack(number, place, 0),
     };
@@ -156,7 +156,7 @@ pub extern "C" fn step(
 ) -> u64
     ensures { λ r. ⌜ Leaves (Only (stepped (now (table .entry)) (now (marking .entry)) (terms (now (guards .entry)) (now (bounds .entry))) (now (choice .entry)))) r (now (out .entry)) (now (out .exit)) ⌝ }
 {
-    let x = match checking::read(table) {
+    let x = match table_read::read(table) {
         TableAnswer::Good(x) => x,
         TableAnswer::Refused(number, place) => return wire::pack(number, place, 0),
     };
@@ -183,9 +183,9 @@ pub extern "C" fn finish(
 ) -> u64
     ensures { λ r. ⌜ Leaves (Only (finished (now (table .entry)) (now (marking .entry)) action (now (values .entry)))) r (now (out .entry)) (now (out .exit)) ⌝ }
 {
-    let x = match checking::read(table) {
+    let x = match table_read::read(table) {
         TableAnswer::Good(x) => x,
         TableAnswer::Refused(number, place) => return wire::pack(number, place, 0),
     };
-    delivering::finish(table, x, marking, action, values, out)
+    start_finish::finish(table, x, marking, action, values, out)
 }

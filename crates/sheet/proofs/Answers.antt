@@ -17,9 +17,9 @@ use Rattle.paper.proofs.Bools.{never}
 use Rattle.paper.proofs.Bytes.{Bytes}
 use Rattle.paper.proofs.Lengths.{length-keep, length-from}
 use Rattle.paper.proofs.Sizes.{few-ends}
-use Rattle.numbers.specs.Written.{Printed}
-use Rattle.text.specs.Sheets.{Sheet}
-use Rattle.text.proofs.Meaning.{sheet-fits}
+use Rattle.sheet_numbers.specs.Written.{Printed}
+use Rattle.sheet_text.specs.Sheets.{Sheet}
+use Rattle.sheet_text.proofs.Meaning.{sheet-fits}
 use Rattle.sheet.specs.Shown.{Shown, PrintsParts}
 use Rattle.sheet.proofs.Refusals.{board-plain}
 

@@ -9,7 +9,7 @@ use Rattle.paper.specs.Choices.{Board, board}
 use Rattle.paper.specs.Operations.{Pick, sheetBytes}
 use Rattle.paper.specs.Program.{boardText, text}
 use Rattle.paper.proofs.Bytes.{Bytes}
-use Rattle.numbers.specs.Written.{Printed}
+use Rattle.sheet_numbers.specs.Written.{Printed}
 
 module _ (t m : List ℕ) (under : Terms) where
   -- table, marking and terms are a board, and the bytes are its sheet

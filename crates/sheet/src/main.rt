@@ -46,7 +46,7 @@ fn describe_board(
         &mut choice,
     );
     let n = wire::length_in(picked);
-    text::board_text(table, sheet, &choice[..n], out)
+    sheet_text::board_text(table, sheet, &choice[..n], out)
 }
 
 // Makes the text for a table, a marking and guards.
@@ -58,7 +58,7 @@ fn describe_parts(table: &[u8], marking: &[u8], guards: &[u8], out: &mut [u8]) -
     let shown = keshmirun::sheet(table, marking, guards, &keshmirun::NO_BOUNDS, &mut sheet);
     let number = wire::refusal_in(shown);
     if number != 0 {
-        return text::refusal_text(number, wire::place_in(shown), out);
+        return sheet_text::refusal_text(number, wire::place_in(shown), out);
     }
     let n = wire::length_in(shown);
     describe_board(table, marking, guards, &sheet[..n], out)
@@ -69,9 +69,9 @@ fn describe(stream: &[u8], out: &mut [u8]) -> usize
     requires { ⌜ (length (now stream) ≤ mostInput) × (16464 ≤ length (now out)) ⌝ }
     ensures { λ r. ⌜ (r ≤ length (now (out .exit))) × ((input : List ℕ) → now (stream .entry) ≡ readOf input → PrintsFor input (take r (now (out .exit)))) ⌝ }
 {
-    let table = text::stream::table_part(stream);
-    let marking = text::stream::marking_part(stream);
-    let guards = text::stream::guards_part(stream);
+    let table = sheet_text::stream::table_part(stream);
+    let marking = sheet_text::stream::marking_part(stream);
+    let guards = sheet_text::stream::guards_part(stream);
     describe_parts(table, marking, guards, out)
 }
 

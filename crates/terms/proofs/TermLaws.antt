@@ -12,8 +12,8 @@ use Rattle.paper.specs.Answers.{refused, good}
 use Rattle.paper.specs.Offers.{guardsFine, boundsFine, boundsCount, boundEdge, low, high, inBounds, terms, goesOver}
 use Rattle.paper.proofs.Ladders.{need-good, need-passed}
 use Rattle.paper.proofs.BoundsLists.{GoodBounds, bounds-good, listed-bounds, unlisted-bounds}
-use Rattle.rows.specs.Rows.{admitted}
-use Rattle.rows.specs.declared.Gate.{Gate}
+use Rattle.offers.specs.Rows.{admitted}
+use Rattle.offers.specs.declared.Gate.{Gate}
 use Rattle.terms.specs.Terms.{termsFine, Entries, Found, Ties}
 
 -- ---- the two rows

@@ -2,7 +2,7 @@
 use Prim.Native.Nat.{_≤_}
 use native.Mathlib.Omega.{arith}
 use borrow.Author.Needs.{needs}
-use Rattle.paths.proofs.Insertion.{in-order-inside}
+use Rattle.ends_paths.proofs.Insertion.{in-order-inside}
 use Rattle.ends.specs.Slots.{byEnd}
 use Rattle.ends.proofs.Found.{keyed-inside}
 use Rattle.ends.proofs.Meaning.{Done}

@@ -9,7 +9,7 @@ use borrow.Author.Needs.{needs}
 use Rattle.paper.specs.Lists.{at}
 use Rattle.paper.specs.Table.{edges, kind, target, isControlNode}
 use Rattle.table.proofs.Reading.{read-spans, most-edges, target-node}
-use Rattle.paths.specs.Blocks.{run}
+use Rattle.ends_paths.specs.Blocks.{run}
 use Rattle.ends.specs.Slots.{endRows, Keyed}
 use Rattle.ends.proofs.Found.{rows-none, rows-skip, rows-more, rows-many, keyed-more, key-is}
 use Rattle.ends.proofs.collect.Statement.{statement}

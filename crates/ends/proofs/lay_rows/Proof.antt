@@ -5,7 +5,7 @@ use native.Mathlib.Omega.{arith}
 use lib.ListN.{length, length-set}
 use borrow.Author.Needs.{needs}
 use Rattle.paper.specs.Lists.{at}
-use Rattle.rows.proofs.Cells.{filled}
+use Rattle.offers.proofs.Cells.{filled}
 use Rattle.ends.proofs.lay_rows.Statement.{statement}
 use Rattle.ends.proofs.lay_rows.Tie as tie
 

@@ -1,7 +1,7 @@
 -- `ends::put_in_order` meets its contract: each part leaves what the next one reads. Assumes nothing.
 use native.Mathlib.Omega.{arith}
 use borrow.Author.Needs.{needs}
-use Rattle.paths.proofs.Slots.{traced-fit}
+use Rattle.ends_paths.proofs.Slots.{traced-fit}
 use Rattle.ends.proofs.Order.{slots-read}
 use Rattle.ends.proofs.put_in_order.Statement.{statement}
 use Rattle.ends.proofs.put_in_order.Tie as tie

@@ -2,7 +2,7 @@
 use mathlib.Core.Path.{_≡_, sym}
 use native.Mathlib.Omega.{arith}
 use lib.ListN.{length}
-use Rattle.rows.specs.Struct.{rowsOf}
+use Rattle.offers.specs.Struct.{rowsOf}
 use Rattle.ends.proofs.Columns.{seen-struct}
 use borrow.Author.Needs.{needs}
 use Rattle.board.proofs.reading.arranged.Statement.{statement}

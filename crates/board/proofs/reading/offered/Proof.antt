@@ -1,9 +1,9 @@
 -- `offered`: the first offers of what is held, and what the builder makes of them. Assumes nothing.
 use native.Mathlib.Omega.{arith}
 use Rattle.table.proofs.Reading.{read-spans, most-edges}
-use Rattle.flow.proofs.Inputs.{good-framed}
+use Rattle.offers_all.proofs.Inputs.{good-framed}
 use Rattle.ends.proofs.Columns.{ranges-more}
-use Rattle.holding.specs.TakenUp.{held}
+use Rattle.marking_held.specs.TakenUp.{held}
 use Rattle.board.proofs.Ladder.{begun-input}
 use borrow.Author.Needs.{needs}
 use Rattle.board.proofs.reading.offered.Statement.{statement}

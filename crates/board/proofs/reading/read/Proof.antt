@@ -3,8 +3,8 @@ use mathlib.Core.Path.{sym, ap, _∙_}
 use native.Mathlib.Omega.{arith}
 use Rattle.paper.specs.Offers.{terms}
 use Rattle.table.proofs.Reading.{read-spans}
-use Rattle.holding.specs.TakenUp.{held}
-use Rattle.holding.proofs.TakenUp.{live-read}
+use Rattle.marking_held.specs.TakenUp.{held}
+use Rattle.marking_held.proofs.TakenUp.{live-read}
 use Rattle.terms.specs.Terms.{said}
 use Rattle.board.specs.Reading.{seats}
 use Rattle.board.proofs.Ladder.{board-5, board-6, board-terms, refused-board, fine-long}

@@ -3,8 +3,8 @@ use native.Mathlib.Omega.{arith}
 use borrow.Author.Tests.{not-true, not-false}
 use Rattle.paper.proofs.Bytes.{Bytes}
 use Rattle.paper.specs.Offers.{terms, goesOver}
-use Rattle.holding.specs.TakenUp.{held}
-use Rattle.holding.proofs.TakenUp.{live-good}
+use Rattle.marking_held.specs.TakenUp.{held}
+use Rattle.marking_held.proofs.TakenUp.{live-good}
 use Rattle.board.specs.Reading.{seats}
 use Rattle.board.proofs.Ladder.{board-8, board-read, refused-board, fine-ties}
 use borrow.Author.Needs.{needs}

@@ -2,7 +2,7 @@
 use mathlib.Core.Path.{refl}
 use native.Mathlib.Omega.{arith}
 use Rattle.paper.specs.Offers.{terms}
-use Rattle.holding.proofs.TakenUp.{full-room}
+use Rattle.marking_held.proofs.TakenUp.{full-room}
 use borrow.Author.Needs.{needs}
 use Rattle.keshmirun.proofs.asking.ask.Statement.{statement}
 use Rattle.keshmirun.proofs.asking.ask.Tie as tie

@@ -1,0 +1,57 @@
+-- `nodes_size` is what the nodes' fields take. The invariant: the sum of those passed, of which each is at most 2,041. Assumes nothing.
+use Prim.Native.Nat.{_*_, _≤_, _-_}
+use mathlib.Core.Path.{_≡_}
+use native.Mathlib.Omega.{arith}
+use Rattle.paper.specs.Table.{nodes}
+use Rattle.marking_write.specs.Writing.{nodeSize}
+use Rattle.wire.specs.Totals.{total}
+use Rattle.wire.proofs.Runs.{total-more}
+use borrow.Author.Needs.{needs}
+use Rattle.marking_write.proofs.nodes_size.Statement.{statement}
+use Rattle.marking_write.proofs.nodes_size.Tie as tie
+
+abbrev Inv-loop : tie.InvT-loop
+Inv-loop t table kept more n taken₀ i₀ taken i = (i ≤ n) × (taken ≡ total (nodeSize t kept more) i) × (taken ≤ 2041 * i)
+
+abbrev μ-loop : tie.MeasureT-loop
+μ-loop t table kept more n taken₀ i₀ taken i = n - i
+
+loop-holds : tie.Need-loop-holds Inv-loop μ-loop
+unfolding total
+loop-holds c = search needs
+
+node-size-requires : tie.Need-node-size-requires Inv-loop μ-loop
+node-size-requires c κs = search needs
+
+add-taken : tie.Need-add-taken Inv-loop μ-loop
+add-taken c = search needs
+
+add-i : tie.Need-add-i Inv-loop μ-loop
+add-i c = search needs
+
+loop-less : tie.Need-loop-less Inv-loop μ-loop
+loop-less c = search needs
+
+loop-again : tie.Need-loop-again Inv-loop μ-loop
+loop-again c = let a = c .before .before .before .before .before .before .args in
+    (omega arith, omega (arith, total-more (nodeSize (a .t .now) (a .kept .now) (a .more .now)) (c .before .before .loop .i)), omega arith)
+
+returns : tie.Need-returns Inv-loop μ-loop
+returns c = let a = c .before .before .before .before .before .args in
+    let l = c .before .loop in
+    let e : l .i ≡ nodes (a .t .now) = omega arith in
+    (rw (← e) (l .inv .1), omega arith)
+
+pub nodes-size-spec : {M : Type 1} → statement M
+nodes-size-spec =
+    tie.close
+    (tie.spec
+    Inv-loop
+    μ-loop
+    loop-holds
+    node-size-requires
+    add-taken
+    add-i
+    loop-less
+    loop-again
+    returns)

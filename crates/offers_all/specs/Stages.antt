@@ -1,0 +1,111 @@
+-- The offers of all edges, edge by edge in order of rank. Assumes nothing.
+use mathlib.Core.Path.{_≡_}
+use Prim.Native.Nat.{ℕ, suc, _≤_, _<_}
+use mathlib.Core.Bool.{Bool, true, false, _&&_, _||_}
+use mathlib.Core.List.{List, [], _++_}
+use mathlib.Core.Option.{Option, none}
+use lib.Dec.{eqb, ltb}
+use lib.ListN.{length, getD}
+use Rattle.paper.specs.Lists.{all, keep, each, gather}
+use Rattle.paper.specs.Limits.{limits}
+use Rattle.paper.specs.Table.{nodes, edges, source, target, kind, into, isJoin, isControlNode, chain}
+use Rattle.paper.specs.Marking.{Marking}
+use Rattle.paper.specs.Offers.{Offer, parts, value, firsts, ways, handed, offersOn, offers}
+use Rattle.paper.proofs.Members.{In, Distinct}
+use Rattle.table.specs.declared.Table.{Table}
+use Rattle.table.specs.Reading.{Spans}
+use Rattle.terms.specs.Terms.{Ties}
+use Rattle.offers.specs.Rows.{Rows, Holds, Seg, startOf, fine}
+
+-- what goes over an edge: any gate will do
+abbrev pub Gates : Type 0
+Gates = ℕ → Option ℕ → Bool
+
+-- the offers on each edge
+abbrev pub onEdge : List ℕ → Gates → Marking → ℕ → List Offer
+onEdge t goes m = offersOn t goes m (limits .longestPath)
+
+-- ---- ranks of nodes
+-- the longest chain of control nodes that ends at node i has `rk i` of them, or k or more where that is k
+pub record Upto (t rk : List ℕ) (k i : ℕ) : Type 0 where
+  pub small : getD rk i 0 ≤ k
+  pub reached : (j : ℕ) → j ≤ getD rk i 0 → chain t j i ≡ true
+  pub over : getD rk i 0 < k → chain t (suc (getD rk i 0)) i ≡ false
+
+-- the rank of an edge's source
+abbrev pub rankOf : List ℕ → List ℕ → ℕ → ℕ
+rankOf t rk j = getD rk (source t j) 0
+
+-- ---- one edge
+-- a way at the join that edge e leaves goes over e exactly if each of the offers taken does: at most one of them has a value
+abbrev pub OneValue : List ℕ → Gates → (ℕ → List Offer) → ℕ → Type 0
+OneValue t goes on e =
+    isJoin (kind t (source t e)) ≡ true → goes e none ≡ true
+    → (w : Offer) → In w (ways t (each on (into t (source t e)))) → goes e (value w) ≡ all (λ p. goes e (value p)) (parts w)
+
+-- what is known before the offers on edge e are put at the end of ts
+pub record Edge (t : List ℕ) (m : Marking) (goes : Gates) (g x : List ℕ) (r : Rows) (ts : List Offer) (on : ℕ → List Offer) (a b st ol : List ℕ) (e : ℕ) : Type 0 where
+  pub holds-ts : Holds t r ts
+  pub ties : Ties t g x goes
+  pub is : on e ≡ keep (λ o. goes e (value o)) (handed t m on e)
+  pub segs : isControlNode (kind t (source t e)) ≡ true → (j : ℕ) → j < edges t → target t j ≡ source t e → Seg ts (getD a j 0) (getD b j 0) (on j)
+  pub distinct : Distinct (ts ++ on e)
+  pub starts : isControlNode (kind t (source t e)) ≡ false → firsts t m e ≡ startOf e (getD st e 0) (getD ol e 0)
+  pub one-value : OneValue t goes on e
+
+-- ---- rounds
+-- the edges that come before edge e in round r
+unfoldable pub done : List ℕ → List ℕ → ℕ → ℕ → ℕ → Bool
+done t rk r e j = ltb (rankOf t rk j) r || (eqb (rankOf t rk j) r && ltb j e)
+
+-- what the builder needs of the table: a good table has it
+pub record Framed (t : List ℕ) (x : Table) : Type 0 where
+  pub spans : Spans t x
+  pub sources : (j : ℕ) → j < edges t → source t j < nodes t
+  pub targets : (j : ℕ) → j < edges t → target t j < nodes t
+
+-- a table that was read, and a guard, a first offer's code and value for each edge
+pub record Sized (t : List ℕ) (x : Table) (g st ol : List ℕ) : Type 0 where
+  pub framed : Framed t x
+  pub guards : edges t ≤ length g
+  pub codes : edges t ≤ length st
+  pub values : edges t ≤ length ol
+
+-- no chain of 16 control nodes ends at an edge's source, the gates are those of the guards g and the bounds x, and the first offers those of the marking
+pub record Input (t : List ℕ) (m : Marking) (goes : Gates) (g x st ol : List ℕ) : Type 0 where
+  pub ties : Ties t g x goes
+  pub one-value : (e : ℕ) → e < edges t → OneValue t goes (onEdge t goes m) e
+  pub flat : (j : ℕ) → j < edges t → chain t (limits .chainTooLong) (source t j) ≡ false
+  pub starts : (e : ℕ) → e < edges t → isControlNode (kind t (source t e)) ≡ false → firsts t m e ≡ startOf e (getD st e 0) (getD ol e 0)
+
+-- ranks rise along edges into control nodes, and are below c
+pub record Rising (t rk : List ℕ) (c : ℕ) : Type 0 where
+  pub rises : (j : ℕ) → j < edges t → isControlNode (kind t (target t j)) ≡ true → rankOf t rk j < getD rk (target t j) 0
+  pub low : (j : ℕ) → j < edges t → rankOf t rk j < c
+
+-- the edges ds are done: those before edge e in round r
+pub record Stage (t : List ℕ) (on : ℕ → List Offer) (rk : List ℕ) (r e : ℕ) (rows : Rows) (a b : List ℕ) (ds : List ℕ) : Type 0 where
+  pub holds-ts : Holds t rows (gather on ds)
+  pub apart : Distinct ds
+  pub only : (j : ℕ) → In j ds → (j < edges t) × (done t rk r e j ≡ true)
+  pub every : (j : ℕ) → j < edges t → done t rk r e j ≡ true → In j ds
+  pub segs : (j : ℕ) → j < edges t → done t rk r e j ≡ true → Seg (gather on ds) (getD a j 0) (getD b j 0) (on j)
+
+-- after a round: the next stage, or too many offers
+pub record Next (t : List ℕ) (m : Marking) (goes : Gates) (rk : List ℕ) (r e : ℕ) (rows : Rows) (ok : Bool) (a b : List ℕ) : Type 0 where
+  pub good : ok ≡ true → (ds : List ℕ) × Stage t (onEdge t goes m) rk r e rows a b ds
+  pub bad : ok ≡ false → fine (offers t goes m) ≡ false
+
+-- the whole list: some order of the edges, every edge's offers from a to b of the list in that order
+pub record Whole (t : List ℕ) (m : Marking) (goes : Gates) (rows : Rows) (a b : List ℕ) : Type 0 where
+  pub order : List ℕ
+  pub once : Distinct order
+  pub all-edges : (j : ℕ) → j < edges t → In j order
+  pub only-edges : (j : ℕ) → In j order → j < edges t
+  pub holds-ts : Holds t rows (gather (onEdge t goes m) order)
+  pub segs : (j : ℕ) → j < edges t → Seg (gather (onEdge t goes m) order) (getD a j 0) (getD b j 0) (onEdge t goes m j)
+  pub sizes : fine (offers t goes m) ≡ true
+
+pub record Result (t : List ℕ) (m : Marking) (goes : Gates) (rows : Rows) (ok : Bool) (a b : List ℕ) : Type 0 where
+  pub good : ok ≡ true → Whole t m goes rows a b
+  pub bad : ok ≡ false → fine (offers t goes m) ≡ false

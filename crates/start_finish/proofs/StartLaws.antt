@@ -1,0 +1,72 @@
+-- What start answers on a table that was read: nothing is held, and what is delivered is the paper's. Assumes nothing.
+use mathlib.Core.Path.{_≡_, refl, sym, ap}
+use mathlib.Core.Bool.{Bool, true, false, _&&_}
+use mathlib.Core.List.{List}
+use Prim.Native.Nat.{ℕ, _<_}
+use lib.ListN.{length}
+use native.Mathlib.Omega.{arith}
+use lib.Dec.{eqb}
+use borrow.Author.Tests.{eqb-true}
+use Rattle.paper.specs.Lists.{below, keep}
+use Rattle.paper.specs.Limits.{limits}
+use Rattle.paper.specs.Answers.{good}
+use Rattle.paper.specs.Table.{nodes, kind, owner, isIncoming, isObjectNode}
+use Rattle.paper.specs.Marking.{blank}
+use Rattle.paper.specs.Operations.{startOf, start, inRoom, Reply, Leaves, Only}
+use Rattle.paper.proofs.Bools.{and-true}
+use Rattle.paper.proofs.Lists.{keep-same}
+use Rattle.paper.proofs.Tables.{GoodTable}
+use Rattle.table.specs.declared.Table.{Table}
+use Rattle.table.specs.Reading.{tableRead, Blank}
+use Rattle.table.proofs.Reading.{read-fine, read-good}
+use Rattle.marking.specs.Values.{isListed, listedNodes}
+use Rattle.marking_give.specs.Giving.{Fires, giveOf}
+use Rattle.start_finish.specs.Delivered.{Deliverable, delivered}
+
+-- an incoming parameter belongs to none
+incoming-listed : (t : List ℕ) → GoodTable t limits → keep (λ n. isIncoming (kind t n)) (below (nodes t)) ≡ listedNodes t 6 255
+unfolding listedNodes
+incoming-listed t g = keep-same (λ n. isIncoming (kind t n)) (isListed t 6 255) (nodes t) (λ i l. by i l (isIncoming (kind t i)) refl)
+  where
+    by : (i : ℕ) → i < nodes t → (c : Bool) → isIncoming (kind t i) ≡ c → c ≡ c && eqb (owner t i) 255
+    by i l true e = let k = eqb-true (kind t i) 6 e in sym (rw k at (g .node i l .owner-fine))
+    by i l false e = refl
+
+module _ (t b : List ℕ) (x : Table) (e : tableRead t ≡ good x) where
+  start-is : startOf t b ≡ giveOf t 6 255 (λ i. eqb (kind t i) 1) (blank false) b
+  unfolding startOf giveOf
+  start-is = rw (incoming-listed t (read-good t e))
+
+  start-delivers : start t b ≡ delivered t 6 255 (λ i. eqb (kind t i) 1) (blank false) b
+  unfolding start delivered
+  start-delivers = rw (read-fine t e, start-is)
+
+  -- nothing is held, and incoming parameters are object nodes
+  pub start-ready : (from kept runs tokens fire : List ℕ) → Blank from → Blank kept → Blank runs → Blank tokens → Fires t (λ i. eqb (kind t i) 1) fire
+      → Deliverable t 6 255 b from kept runs tokens fire
+  start-ready from kept runs tokens fire zf zk zr zt f = record {
+    fires = λ i. eqb (kind t i) 1;
+    held = blank false;
+    live = refl;
+    ready = record {
+      nodes-held = record {
+        stocks = λ i l o. record { many = zk i; stand = rw (zk i) refl; inside = omega (arith, zf i, zk i) };
+        running = λ i l r. zr i;
+      };
+      counts-held = record { edges-held = record { counts = λ j l c. zt j }; none = λ e l h. refl };
+      no-stock = λ i h. refl;
+      for-stocks = λ i h. ap isObjectNode (eqb-true (kind t i) 6 (and-true (eqb (kind t i) 6) _ h .0));
+      firing = f;
+    };
+  }
+
+  pub start-leaves : (from kept runs tokens fire : List ℕ) (zf : Blank from) (zk : Blank kept) (zr : Blank runs) (zt : Blank tokens) (f : Fires t (λ i. eqb (kind t i) 1) fire)
+      (w : ℕ) (out after : List ℕ)
+      → ((d : Deliverable t 6 255 b from kept runs tokens fire) → Reply (inRoom (length out) (delivered t 6 255 (d .fires) (d .held) b)) w out after)
+      → Leaves (Only (start t b)) w out after
+  unfolding start-ready
+  start-leaves from kept runs tokens fire zf zk zr zt f w out after h = record {
+    answer = delivered t 6 255 (λ i. eqb (kind t i) 1) (blank false) b;
+    allowed = sym start-delivers;
+    reply = h (start-ready from kept runs tokens fire zf zk zr zt f);
+  }

@@ -1,0 +1,133 @@
+-- `read` is the ladder of rows 1 to 4, and hands each row what the rows above it settled. Assumes nothing.
+use mathlib.Core.Path.{_≡_, _∙_, sym, ap}
+use mathlib.Core.Bool.{true, not}
+use mathlib.Core.Option.{none}
+use native.Mathlib.Omega.{arith}
+use borrow.Author.Tests.{not-true, not-false}
+use borrow.Author.Needs.{needs}
+use Rattle.paper.specs.Answers.{good}
+use Rattle.paper.specs.Lists.{lowest}
+use Rattle.paper.specs.Limits.{limits}
+use Rattle.paper.specs.Table.{nodes, edges, frameFine, nodeFine, edgeFine, shapeFine}
+use Rattle.paper.proofs.Tables.{frame-facts}
+use Rattle.table.specs.Reading.{found, Spans}
+use Rattle.table_read.proofs.Laws.{row-1, row-2, row-3, row-4, no-row, counted, all-pass, found-below}
+use Rattle.table_read.proofs.read.Statement.{statement}
+use Rattle.table_read.proofs.read.Tie as tie
+
+-- what is known once row 1, row 2 and row 3 have passed
+frame : (c : tie.Else1) → frameFine (c .before .before .before .args .s .now) limits ≡ true
+frame c = sym (c .before .frame-fine .ensures) ∙ not-false _ (c .if1 .left)
+
+spans : (c : tie.After-counts) → Spans (c .before .before .before .before .args .s .now) (c .counts .result)
+spans c =
+    let f = frame-facts (c .before .before .before .before .args .s .now) limits (frame (c .before)) in
+    record {
+      nodes-read = c .counts .ensures .0;
+      edges-read = c .counts .ensures .1;
+      few-nodes = f .nodes-fit;
+      few-edges = f .edges-fit;
+      whole = f .all-of-it;
+    }
+
+nodes-pass : (c : tie.After-enum-told) → lowest (λ k. not (nodeFine (c .before .before .before .before .before .before .before .args .s .now) limits k)) (nodes (c .before .before .before .before .before .before .before .args .s .now)) ≡ none
+nodes-pass c = sym (c .before .before .bad-node .ensures) ∙ ap found (c .enum-told .given .1)
+
+edges-pass : (c : tie.After-enum-told2) → lowest (λ k. not (edgeFine (c .before .before .before .before .before .before .before .before .before .before .args .s .now) k)) (edges (c .before .before .before .before .before .before .before .before .before .before .args .s .now)) ≡ none
+edges-pass c = sym (c .before .before .bad-edge .ensures) ∙ ap found (c .enum-told2 .given .1)
+
+frame-fine-requires : tie.Need-frame-fine-requires
+frame-fine-requires c κs = search needs
+
+returns : tie.Need-returns
+returns c = row-1 _ (sym (c .before .frame-fine .ensures) ∙ not-true _ (c .if1 .taken))
+
+counts-requires : tie.Need-counts-requires
+counts-requires c κs = let f = frame-facts (c .before .before .before .args .s .now) limits (frame c) in omega arith
+
+bad-node-requires : tie.Need-bad-node-requires
+bad-node-requires c κs = spans c
+
+enum-known-i : tie.Need-enum-known-i
+enum-known-i c = search needs
+
+cast-t9 : tie.Need-cast-t9
+cast-t9 c =
+    let t = c .before .before .before .before .before .before .before .before .args .s .now in
+    let f = frame-facts t limits (frame (c .before .before .before .before .before)) in
+    let b = found-below (λ k. not (nodeFine t limits k)) (nodes t) _ (sym (c .before .before .before .bad-node .ensures) ∙ ap found (c .before .i .given .1)) in
+    omega arith
+
+returns-2 : tie.Need-returns-2
+returns-2 c = row-2 _ (frame (c .before .before .before .before .before)) _ (sym (c .before .before .before .bad-node .ensures) ∙ ap found (c .before .i .given .1))
+
+enum-told : tie.Need-enum-told
+enum-told c = search needs
+
+bad-edge-requires : tie.Need-bad-edge-requires
+bad-edge-requires c κs = spans (c .before .before .before)
+
+enum-known-j : tie.Need-enum-known-j
+enum-known-j c = search needs
+
+cast-t11 : tie.Need-cast-t11
+cast-t11 c =
+    let t = c .before .before .before .before .before .before .before .before .before .before .before .args .s .now in
+    let f = frame-facts t limits (frame (c .before .before .before .before .before .before .before .before)) in
+    let b = found-below (λ k. not (edgeFine t k)) (edges t) _ (sym (c .before .before .before .bad-edge .ensures) ∙ ap found (c .before .j .given .1)) in
+    omega arith
+
+returns-3 : tie.Need-returns-3
+returns-3 c = row-3 _ (frame (c .before .before .before .before .before .before .before .before)) (nodes-pass (c .before .before .before .before)) _ (sym (c .before .before .before .bad-edge .ensures) ∙ ap found (c .before .j .given .1))
+
+enum-told-2 : tie.Need-enum-told-2
+enum-told-2 c = search needs
+
+bad-shape-requires : tie.Need-bad-shape-requires
+bad-shape-requires c κs = (spans (c .before .before .before .before .before .before), all-pass _ _ (nodes-pass (c .before .before .before)), all-pass _ _ (edges-pass c))
+
+enum-known-i-2 : tie.Need-enum-known-i-2
+enum-known-i-2 c = search needs
+
+cast-t13 : tie.Need-cast-t13
+cast-t13 c =
+    let t = c .before .before .before .before .before .before .before .before .before .before .before .before .before .before .args .s .now in
+    let f = frame-facts t limits (frame (c .before .before .before .before .before .before .before .before .before .before .before)) in
+    let b = found-below (λ k. not (shapeFine t limits k)) (nodes t) _ (sym (c .before .before .before .bad-shape .ensures) ∙ ap found (c .before .i2 .given .1)) in
+    omega arith
+
+returns-4 : tie.Need-returns-4
+returns-4 c = row-4 _ (frame (c .before .before .before .before .before .before .before .before .before .before .before)) (nodes-pass (c .before .before .before .before .before .before .before)) (edges-pass (c .before .before .before .before)) _ (sym (c .before .before .before .bad-shape .ensures) ∙ ap found (c .before .i2 .given .1))
+
+enum-told-3 : tie.Need-enum-told-3
+enum-told-3 c = search needs
+
+returns-5 : tie.Need-returns-5
+returns-5 c =
+    let n = c .before .before .before .before .before .before .before .before .before .counts .ensures in
+    ap good (counted _ _ _ (n .0) (n .1))
+    ∙ no-row _ (frame (c .before .before .before .before .before .before .before .before .before .before)) (nodes-pass (c .before .before .before .before .before .before)) (edges-pass (c .before .before .before)) (sym (c .before .before .bad-shape .ensures) ∙ ap found (c .enum-told3 .given .1))
+
+pub read-spec : {M : Type 1} → statement M
+read-spec =
+    tie.close
+    (tie.spec
+    frame-fine-requires
+    returns
+    counts-requires
+    bad-node-requires
+    enum-known-i
+    cast-t9
+    returns-2
+    enum-told
+    bad-edge-requires
+    enum-known-j
+    cast-t11
+    returns-3
+    enum-told-2
+    bad-shape-requires
+    enum-known-i-2
+    cast-t13
+    returns-4
+    enum-told-3
+    returns-5)

@@ -1,0 +1,233 @@
+-- Laws of row 4: marks and tallies one edge further, and the row by kind of node. They hold for any numbers of nodes and edges. Assumes nothing.
+use mathlib.Core.Path.{_≡_, refl, sym, ap, ap₂, _∙_}
+use Prim.Native.Nat.{ℕ, zero, suc, _+_, _*_, _-_, _≤_, _<_}
+use native.Mathlib.Omega.{arith}
+use native.Mathlib.Nat.{zero-add, add-zero, add-assoc}
+use native.Mathlib.Numerals.{add-one}
+use mathlib.Core.Bool.{Bool, true, false, not, _&&_, _||_, or-true, or-false, or-comm, and-true, and-false}
+use mathlib.Core.Logic.{⊎-elim}
+use mathlib.Core.List.{List}
+use mathlib.Core.Option.{none}
+use lib.Dec.{leb, eqb}
+use lib.ListN.{length, set, length-set}
+use lib.Seq.{getD-set-same, getD-set-other}
+use borrow.Author.Tests.{eqb-true, eqb-false, eq-eqb, ne-eqb}
+use Rattle.paper.specs.Lists.{at, below, any, keep, count, oneIf}
+use Rattle.paper.specs.Limits.{limits}
+use Rattle.paper.specs.Table.{nodes, edges, kind, owner, lower, isInput, isOutput, nodeFine, edgeKind, source, target, isObject, isControl, into, out, isControlNode, chain, degreesFine, oneKind, joinFine, actionFine, chainFine, shapeFine}
+use Rattle.paper.proofs.Bools.{and-both, or-left, iff}
+use Rattle.paper.proofs.Bools.{and-true as and-true-both, or-true as or-true-cases}
+use Rattle.paper.proofs.Counts.{count-below, count-below-same, any-below, count-keep, length-count}
+use Rattle.paper.proofs.Fuel.{no-longer}
+use Rattle.paper.proofs.Shapes.{all-object, all-control, pin-owner}
+use Rattle.paper.proofs.Tables.{EdgeFields}
+use Rattle.table_shape.specs.declared.Degrees.{Degrees}
+use Rattle.table_shape.specs.Shape.{Counts, Tallied, Chained, leadsOn, marked, ofOneKind, splitFine, mergeFine, joinShape, actionShape}
+
+-- ---- marks: one step further
+module _ (q : ℕ → Bool) (f : ℕ → ℕ) (m : List ℕ) (j a : ℕ) where
+  pub marked-more : (q j ≡ true → f j < length m) → at m a ≡ oneIf (any (λ x. q x && eqb (f x) a) (below j))
+      → at (marked m (q j) (f j)) a ≡ oneIf (any (λ x. q x && eqb (f x) a) (below (j + 1)))
+  marked-more inside h =
+      by (q j) (eqb (f j) a) inside refl
+      ∙ ap oneIf (sym (any-below (λ x. q x && eqb (f x) a) j))
+      ∙ ap (λ (n : ℕ). oneIf (any (λ x. q x && eqb (f x) a) (below n))) (sym (add-one j))
+    where
+      by : (b c : Bool) → (b ≡ true → f j < length m) → eqb (f j) a ≡ c
+          → at (marked m b (f j)) a ≡ oneIf (any (λ x. q x && eqb (f x) a) (below j) || b && c)
+      by true true l e =
+          let o = l refl in
+          let v = eqb-true (f j) a e in
+          rw v (getD-set-same m a 1 0 (omega arith) ∙ ap oneIf (sym (or-true (any (λ x. q x && eqb (f x) a) (below j)))))
+      by true false l e =
+          getD-set-other m (f j) a 1 0 (λ v. eqb-false (f j) a e (sym v))
+          ∙ h
+          ∙ ap oneIf (sym (or-false (any (λ x. q x && eqb (f x) a) (below j))))
+      by false c l e = h ∙ ap oneIf (sym (or-false (any (λ x. q x && eqb (f x) a) (below j))))
+
+-- the marks of a pass over the numbers below j, each at f where q passes
+abbrev pub Marks : (ℕ → Bool) → (ℕ → ℕ) → ℕ → List ℕ → Type 0
+Marks q f j m = (a : ℕ) → at m a ≡ oneIf (any (λ x. q x && eqb (f x) a) (below j))
+
+pub marks-more : (q : ℕ → Bool) (f : ℕ → ℕ) (m m′ : List ℕ) (j : ℕ) (b : Bool) (i : ℕ) → m′ ≡ marked m b i → b ≡ q j → i ≡ f j
+    → (q j ≡ true → f j < length m) → Marks q f j m → Marks q f (j + 1) m′
+marks-more q f m m′ j b i e eb ei inside h a = rw (e, eb, ei) (marked-more q f m j a inside (h a))
+
+pub marks-done : (q : ℕ → Bool) (f : ℕ → ℕ) (m : List ℕ) (j n a : ℕ) (b : Bool) → Marks q f j m → j ≡ n
+    → any (λ x. q x && eqb (f x) a) (below n) ≡ b → at m a ≡ oneIf b
+marks-done q f m j n a b h e v = h a ∙ ap oneIf (ap (λ (y : ℕ). any (λ x. q x && eqb (f x) a) (below y)) e ∙ v)
+
+-- a pin that feeds has an action
+pub feeder-owner : (t : List ℕ) (i : ℕ) → nodeFine t limits i ≡ true → isInput (kind t i) && leb 1 (lower t i) ≡ true → owner t i < nodes t
+feeder-owner t i h e = pin-owner t limits i h (or-left (isInput (kind t i)) (isOutput (kind t i)) (and-true-both (isInput (kind t i)) (leb 1 (lower t i)) e .0))
+
+-- ---- tallies: edge j counts in cell c
+abbrev pub hits : List ℕ → ℕ → ℕ → Bool
+hits t c j = eqb (4 * target t j + 0 + edgeKind t j) c || eqb (4 * source t j + 2 + edgeKind t j) c
+
+bumped : (cells : List ℕ) (a c : ℕ) → a < length cells → at (set cells a (at cells a + 1)) c ≡ at cells c + oneIf (eqb a c)
+bumped cells a c l = by (eqb a c) refl
+  where
+    by : (b : Bool) → eqb a c ≡ b → at (set cells a (at cells a + 1)) c ≡ at cells c + oneIf b
+    by true e = rw (← eqb-true a c e) (getD-set-same cells a (at cells a + 1) 0 l)
+    by false e = getD-set-other cells a c (at cells a + 1) 0 (λ v. eqb-false a c e (sym v)) ∙ sym (add-zero (at cells c))
+
+either : (a b c : ℕ) → (a ≡ b → ⊥) → oneIf (eqb a c) + oneIf (eqb b c) ≡ oneIf (eqb a c || eqb b c)
+either a b c apart = by (eqb a c) (eqb b c) refl refl
+  where
+    by : (x y : Bool) → eqb a c ≡ x → eqb b c ≡ y → oneIf x + oneIf y ≡ oneIf (x || y)
+    by true true e f = absurd (apart (eqb-true a c e ∙ sym (eqb-true b c f)))
+    by true false e f = refl
+    by false true e f = refl
+    by false false e f = refl
+
+pub bumped-most : (cells more : List ℕ) (a c n : ℕ) → more ≡ set cells a (at cells a + 1) → a < length cells → at cells c ≤ n → at more c ≤ n + 1
+bumped-most cells more a c n e l h = rw e (rw (bumped cells a c l) (by (eqb a c)))
+  where
+    by : (b : Bool) → at cells c + oneIf b ≤ n + 1
+    by true = omega arith
+    by false = omega arith
+
+-- two cells are bumped for one edge
+pub bumped-more : (t cells more most : List ℕ) (j a b : ℕ) → more ≡ set cells a (at cells a + 1) → most ≡ set more b (at more b + 1)
+    → a ≡ 4 * target t j + 0 + edgeKind t j → b ≡ 4 * source t j + 2 + edgeKind t j → edgeKind t j ≤ 1 → a < length cells → b < length cells
+    → ((c : ℕ) → at cells c ≡ count (hits t c) (below j)) → (c : ℕ) → at most c ≡ count (hits t c) (below (j + 1))
+bumped-more t cells more most j a b em en ea eb low la lb h c =
+    let n : length more ≡ length cells = ap length em ∙ length-set cells a (at cells a + 1) in
+    ap (λ (l : List ℕ). at l c) en
+    ∙ bumped more b c (omega arith)
+    ∙ ap (λ (x : ℕ). x + oneIf (eqb b c)) (ap (λ (l : List ℕ). at l c) em ∙ bumped cells a c la)
+    ∙ add-assoc (at cells c) (oneIf (eqb a c)) (oneIf (eqb b c))
+    ∙ ap₂ _+_ (h c) (either a b c (λ e. omega arith))
+    ∙ rw (ea, eb) (sym (count-below (hits t c) j))
+    ∙ ap (λ (x : ℕ). count (hits t c) (below x)) (sym (add-one j))
+
+-- an edge of kind k at node x, and at y on its other side, hits cell m of node i's side u; the sides are 0, in, and 2, out
+cell-hit : (x y k i m u v w : ℕ) → u ≡ 2 * w → u + v ≡ 2 → k ≤ 1 → m ≤ 1
+    → eqb (4 * x + u + k) (4 * i + u + m) || eqb (4 * y + v + k) (4 * i + u + m) ≡ eqb x i && eqb k m
+cell-hit x y k i m u v w eu ev hk hm =
+    iff _ _
+    (λ h. ⊎-elim
+    (λ p. let e = eqb-true (4 * x + u + k) (4 * i + u + m) p in and-both (eqb x i) (eqb k m) (eq-eqb x i (omega arith)) (eq-eqb k m (omega arith)))
+    (λ p. let e = eqb-true (4 * y + v + k) (4 * i + u + m) p in absurd (omega arith)) (or-true-cases _ _ h))
+    (λ h. let p = and-true-both (eqb x i) (eqb k m) h in
+    let e = eqb-true x i (p .0) in
+    let f = eqb-true k m (p .1) in or-left (eqb (4 * x + u + k) (4 * i + u + m)) _ (eq-eqb (4 * x + u + k) (4 * i + u + m) (omega arith)))
+
+not-object : (k : ℕ) → k ≤ 1 → eqb k 0 ≡ not (eqb k 1)
+not-object zero h = refl
+not-object (suc zero) h = refl
+not-object (suc (suc k)) h = absurd (omega arith)
+
+-- a cell is a count of the edges kept: those of kind m into node i, or out of it
+module _ (t cells : List ℕ) (h : (c : ℕ) → at cells c ≡ count (hits t c) (below (edges t))) (facts : (j : ℕ) → j < edges t → EdgeFields t j) where
+  cell : (c : ℕ) (p q : ℕ → Bool) → ((j : ℕ) → j < edges t → hits t c j ≡ p j && q j) → at cells c ≡ count q (keep p (below (edges t)))
+  cell c p q e =
+      h c ∙ count-below-same (hits t c) (λ j. p j && q j) (edges t) e ∙ sym (count-keep p q (below (edges t)))
+
+  -- a test of an edge is whether its kind is m
+  abbrev Tells : ℕ → (ℕ → Bool) → Type 0
+  Tells m q = (j : ℕ) → edgeKind t j ≤ 1 → eqb (edgeKind t j) m ≡ q j
+
+  in-cell : (i m c : ℕ) (q : ℕ → Bool) → Tells m q → c ≡ 4 * i + 0 + m → m ≤ 1 → at cells c ≡ count q (into t i)
+  unfolding into
+  in-cell i m c q tells e l =
+      cell c (λ j. eqb (target t j) i) q
+      (λ j u. let k = facts j u .kind-fits in
+      rw e (cell-hit (target t j) (source t j) (edgeKind t j) i m 0 2 0 refl refl k l) ∙ ap (λ (b : Bool). eqb (target t j) i && b) (tells j k))
+
+  out-cell : (i m c : ℕ) (q : ℕ → Bool) → Tells m q → c ≡ 4 * i + 2 + m → m ≤ 1 → at cells c ≡ count q (out t i)
+  unfolding out
+  out-cell i m c q tells e l =
+      cell c (λ j. eqb (source t j) i) q
+      (λ j u. let k = facts j u .kind-fits in
+      rw e (or-comm (eqb (4 * target t j + 0 + edgeKind t j) (4 * i + 2 + m)) _ ∙ cell-hit (source t j) (target t j) (edgeKind t j) i m 2 0 1 refl refl k l)
+      ∙ ap (λ (b : Bool). eqb (source t j) i && b) (tells j k))
+
+  control : Tells 0 (isControl t)
+  control j k = not-object (edgeKind t j) k
+
+  object : Tells 1 (isObject t)
+  object j k = refl
+
+  pub tallied : Tallied t cells
+  tallied i l = record {
+    control-in = in-cell i 0 (4 * i) (isControl t) control (omega arith) (omega arith);
+    object-in = in-cell i 1 (4 * i + 1) (isObject t) object (omega arith) (omega arith);
+    control-out = out-cell i 0 (4 * i + 2) (isControl t) control (omega arith) (omega arith);
+    object-out = out-cell i 1 (4 * i + 3) (isObject t) object (omega arith) (omega arith);
+  }
+
+-- ---- row 4 from the counts
+none-of : (a b : ℕ) → eqb a 0 && eqb b 0 ≡ eqb (a + b) 0
+none-of zero b = rw zero-add
+none-of (suc a) b = rw (ne-eqb (suc a) 0 (λ e. omega arith), ne-eqb (suc a + b) 0 (λ e. omega arith))
+
+neither : {a b c d : ℕ} → a ≡ c → b ≡ d → eqb c 0 && eqb d 0 ≡ eqb (a + b) 0
+neither {a} {b} e f = rw (← e, ← f) (none-of a b)
+
+module _ (t : List ℕ) (i : ℕ) (d : Degrees) (h : Counts t i d) where
+  pub in-degree : d .into .control + d .into .object ≡ length (into t i)
+  in-degree = ap₂ _+_ (h .control-in) (h .object-in) ∙ sym (length-count (isObject t) (into t i))
+
+  pub out-degree : d .out .control + d .out .object ≡ length (out t i)
+  out-degree = ap₂ _+_ (h .control-out) (h .object-out) ∙ sym (length-count (isObject t) (out t i))
+
+  pub one-kind : ofOneKind t i ≡ eqb (d .into .control + d .out .control) 0 || eqb (d .into .object + d .out .object) 0
+  one-kind =
+      ap₂ _||_ (all-object t (into t i) (out t i) ∙ neither (h .control-in) (h .control-out))
+      (all-control t (into t i) (out t i) ∙ neither (h .object-in) (h .object-out))
+
+-- ---- row 4 by kind, where no chain of the forbidden length ends
+module _ (t : List ℕ) (i : ℕ) (free : chain t (limits .chainTooLong) i ≡ false) where
+  pub at-action : kind t i ≡ 2 → actionShape t i ≡ shapeFine t limits i
+  unfolding shapeFine degreesFine oneKind joinFine actionFine chainFine
+  at-action e = sym (simp (e, free, and-true))
+
+  pub at-decision : kind t i ≡ 8 → splitFine t i ≡ shapeFine t limits i
+  unfolding shapeFine degreesFine oneKind joinFine actionFine chainFine
+  at-decision e = sym (simp (e, free, and-true))
+
+  pub at-merge : kind t i ≡ 9 → mergeFine t i ≡ shapeFine t limits i
+  unfolding shapeFine degreesFine oneKind joinFine actionFine chainFine
+  at-merge e = sym (simp (e, free, and-true))
+
+  pub at-fork : kind t i ≡ 10 → splitFine t i ≡ shapeFine t limits i
+  unfolding shapeFine degreesFine oneKind joinFine actionFine chainFine
+  at-fork e = sym (simp (e, free, and-true))
+
+  pub at-join : kind t i ≡ 11 → joinShape t i ≡ shapeFine t limits i
+  unfolding shapeFine degreesFine oneKind joinFine actionFine chainFine
+  at-join e = sym (simp (e, free, and-true))
+
+  pub at-rest : (kind t i ≡ 2 → ⊥) → (kind t i ≡ 8 → ⊥) → (kind t i ≡ 9 → ⊥) → (kind t i ≡ 10 → ⊥) → (kind t i ≡ 11 → ⊥) → true ≡ shapeFine t limits i
+  unfolding shapeFine degreesFine oneKind joinFine actionFine chainFine
+  at-rest a d m f j =
+      sym (simp (ne-eqb (kind t i) 2 a, ne-eqb (kind t i) 8 d, ne-eqb (kind t i) 9 m, ne-eqb (kind t i) 10 f, ne-eqb (kind t i) 11 j, free))
+
+-- ---- what a mark says
+pub unmarked : (b : Bool) → oneIf b ≡ 0 → b ≡ false
+unmarked true e = absurd (omega arith)
+unmarked false e = refl
+
+pub is-marked : (b : Bool) → (oneIf b ≡ 0 → ⊥) → b ≡ true
+is-marked true e = refl
+is-marked false e = absurd (e refl)
+
+pub at-chain-end : (t : List ℕ) (i : ℕ) → chain t (limits .chainTooLong) i ≡ true → shapeFine t limits i ≡ false
+unfolding shapeFine chainFine
+at-chain-end t i e = simp (e, and-false)
+
+-- an edge leads on from where a chain ends
+pub leads-not : (t : List ℕ) (k j : ℕ) → chain t k (source t j) ≡ false → leadsOn t k j ≡ false
+leads-not t k j e = rw e (and-false (isControlNode (kind t (target t j))))
+
+pub leads : (t : List ℕ) (k j : ℕ) → chain t k (source t j) ≡ true → leadsOn t k j ≡ isControlNode (kind t (target t j))
+leads t k j e = rw e (and-true (isControlNode (kind t (target t j))))
+
+-- a round without a mark settles every longer chain
+pub settled : (t marks : List ℕ) (k n : ℕ) → Chained t k marks → k ≤ n → ((i : ℕ) → i < nodes t → at marks i ≡ 0) → Chained t n marks
+settled t marks k n h l z i u =
+    let e : k + (n - k) ≡ n = omega arith in
+    let f : chain t n i ≡ false = rw e at (no-longer t k (n - k) i (unmarked (chain t k i) (sym (h i u) ∙ z i u))) in
+    z i u ∙ ap oneIf (sym f)

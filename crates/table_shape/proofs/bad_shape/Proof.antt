@@ -1,0 +1,110 @@
+-- `bad_shape` finds the lowest node that row 4 refuses. The invariant: every node passed is fine. Assumes nothing.
+use mathlib.Core.Path.{_≡_, _∙_, sym}
+use mathlib.Core.Bool.{true}
+use Prim.Native.Nat.{ℕ, _≤_, _<_, _-_, _*_}
+use native.Mathlib.Omega.{arith}
+use borrow.Author.Count.{below-more, below-none}
+use borrow.Author.Tests.{not-true, not-false}
+use borrow.Author.Needs.{needs}
+use Rattle.paper.specs.Limits.{limits}
+use Rattle.paper.specs.Table.{nodes, shapeFine}
+use Rattle.table_shape.specs.Shape.{Counts}
+use Rattle.table.proofs.Reading.{blank, fails-at, fails-nowhere}
+use Rattle.table_shape.proofs.bad_shape.Statement.{statement}
+use Rattle.table_shape.proofs.bad_shape.Tie as tie
+
+abbrev Inv-loop : tie.InvT-loop
+Inv-loop s table n cells fed ends i₀ i = (i ≤ n) × (n ≡ nodes s) × ((k : ℕ) → k < i → shapeFine s limits k ≡ true)
+
+abbrev μ-loop : tie.MeasureT-loop
+μ-loop s table n cells fed ends i₀ i = n - i
+
+-- the test of node i is row 4 at node i: the arrays hold what they should
+shape-is : (c : tie.After-shape-fine Inv-loop μ-loop) → c .shape-fine .result ≡ shapeFine (c .before .before .before .before .before .before .before .before .before .before .before .before .before .before .args .s .now) limits (c .before .before .before .before .before .loop .i)
+shape-is c =
+    let t = c .before .before .before .before .before .before .before .before .before .before .before .before .before .before .args .s .now in
+    let i = c .before .before .before .before .before .loop .i in
+    let l : i < nodes t = omega arith in
+    let d : Counts t i (c .before .degrees-at .result) = rw (c .before .degrees-at .ensures) (c .before .before .before .before .before .before .before .before .before .before .before .tally .ensures i l) in
+    c .shape-fine .ensures t i (c .before .before .before .kind .ensures .0) d (c .before .before .before .before .before .before .before .before .mark-fed .ensures (blank (limits .mostNodes)) i l) (c .before .before .before .before .before .before .chain-ends .ensures i l)
+
+slice-aggregate-tally : tie.Need-slice-aggregate-tally Inv-loop μ-loop
+slice-aggregate-tally c = search needs
+
+tally-requires : tie.Need-tally-requires Inv-loop μ-loop
+tally-requires c κs = (search needs, c .before .before .pre .2, search needs, blank (4 * limits .mostNodes))
+
+slice-aggregate-mark-fed : tie.Need-slice-aggregate-mark-fed Inv-loop μ-loop
+slice-aggregate-mark-fed c = search needs
+
+mark-fed-requires : tie.Need-mark-fed-requires Inv-loop μ-loop
+mark-fed-requires c κs = search needs
+
+chain-ends-requires : tie.Need-chain-ends-requires Inv-loop μ-loop
+chain-ends-requires c κs = search needs
+
+loop-holds : tie.Need-loop-holds Inv-loop μ-loop
+loop-holds c = (search needs, search needs, below-none (λ k. shapeFine (c .before .before .before .before .before .before .before .before .args .s .now) limits k ≡ true))
+
+kind-requires : tie.Need-kind-requires Inv-loop μ-loop
+kind-requires c κs = search needs
+
+slice-aggregate-degrees-at : tie.Need-slice-aggregate-degrees-at Inv-loop μ-loop
+slice-aggregate-degrees-at c = search needs
+
+degrees-at-requires : tie.Need-degrees-at-requires Inv-loop μ-loop
+degrees-at-requires c κs = search needs
+
+array-read-shape-fine : tie.Need-array-read-shape-fine Inv-loop μ-loop
+array-read-shape-fine c = search needs
+
+array-read-shape-fine-2 : tie.Need-array-read-shape-fine-2 Inv-loop μ-loop
+array-read-shape-fine-2 c = search needs
+
+shape-fine-requires : tie.Need-shape-fine-requires Inv-loop μ-loop
+shape-fine-requires c κs = search needs
+
+returns : tie.Need-returns Inv-loop μ-loop
+returns c =
+    let l = c .before .before .before .before .before .before .loop in
+    let t = c .before .before .before .before .before .before .before .before .before .before .before .before .before .before .before .args .s .now in
+    sym (fails-at (shapeFine t limits) (nodes t) (l .i) (l .inv .2) (sym (shape-is (c .before)) ∙ not-true _ (c .if1 .taken)) (omega arith))
+
+add-i : tie.Need-add-i Inv-loop μ-loop
+add-i c = search needs
+
+loop-less : tie.Need-loop-less Inv-loop μ-loop
+loop-less c = search needs
+
+loop-again : tie.Need-loop-again Inv-loop μ-loop
+loop-again c = (search needs, search needs, below-more _ _ (c .before .before .before .before .before .before .loop .inv .2) (sym (shape-is (c .before)) ∙ not-false _ (c .if1 .left)))
+
+returns-2 : tie.Need-returns-2 Inv-loop μ-loop
+returns-2 c =
+    let l = c .before .loop in
+    let t = c .before .before .before .before .before .before .before .before .before .before .args .s .now in
+    sym (fails-nowhere (shapeFine t limits) (nodes t) (λ k h. l .inv .2 k (omega arith)))
+
+pub bad-shape-spec : {M : Type 1} → statement M
+bad-shape-spec =
+    tie.close
+    (tie.spec
+    Inv-loop
+    μ-loop
+    slice-aggregate-tally
+    tally-requires
+    slice-aggregate-mark-fed
+    mark-fed-requires
+    chain-ends-requires
+    loop-holds
+    kind-requires
+    slice-aggregate-degrees-at
+    degrees-at-requires
+    array-read-shape-fine
+    array-read-shape-fine-2
+    shape-fine-requires
+    returns
+    add-i
+    loop-less
+    loop-again
+    returns-2)
