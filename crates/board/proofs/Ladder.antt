@@ -2,7 +2,7 @@
 use Prim.Native.Nat.{ℕ, _≤_, _<_}
 use mathlib.Core.Path.{_≡_, refl, sym, ap, _∙_}
 use mathlib.Core.Bool.{Bool, true, false, not}
-use mathlib.Core.List.{List}
+use mathlib.Core.List.{List, []}
 use lib.ListN.{length}
 use borrow.Author.Tests.{le-leb, lt-leb}
 use Rattle.paper.specs.Lists.{below, gather}
@@ -19,7 +19,6 @@ use Rattle.paper.proofs.Values.{joined-passes}
 use Rattle.table.specs.declared.Table.{Table}
 use Rattle.table.specs.Reading.{tableRead}
 use Rattle.table.proofs.Reading.{read-fine, read-good}
-use Rattle.marking.specs.declared.reading.MarkingAnswer.{MarkingAnswer}
 use Rattle.marking.specs.declared.reading.MarkingAnswer.the-variants.{Ended, Refused as NoMarking}
 use Rattle.offers.specs.Rows.{Rows, fine}
 use Rattle.terms.specs.Terms.{termsFine, Ties}
@@ -28,10 +27,10 @@ use Rattle.terms.proofs.GuardLaws.{guards-long}
 use Rattle.offers_all.specs.Stages.{Gates, Input, Whole, onEdge}
 use Rattle.offers.specs.Struct.{rowsOf, Full}
 use Rattle.offers_all.proofs.Inputs.{good-flat}
-use Rattle.marking_held.specs.Holding.{HeldRead}
 use Rattle.marking_held.specs.declared.Held.{Held}
-use Rattle.marking_held.specs.TakenUp.{Holding, LiveHeld}
-use Rattle.marking_held.proofs.TakenUp.{refused-read, ended-read}
+use Rattle.marking_held.specs.declared.HeldAnswer.{HeldAnswer}
+use Rattle.marking_held.specs.MarkingHeld.{MarkingHeld, LiveMarking, ReadUp}
+use Rattle.marking_held.proofs.HeldLaws.{refused-up, ended-up, held-nodes, held-edges}
 use Rattle.ends.specs.declared.EndsAnswer.{EndsAnswer}
 use Rattle.ends.specs.declared.EndsAnswer.the-variants.{Good, Refused}
 use Rattle.ends.specs.Ends.{Listed, Arranged}
@@ -45,16 +44,16 @@ module _ (t b g x : List ℕ) {k : Table} (e : tableRead t ≡ good k) where
   abbrev w : Terms
   w = terms g x
 
-  module _ (from kept runs tokens : List ℕ) (r : MarkingAnswer) (h : HeldRead t b from kept runs tokens (marking t b) r) where
-    pub board-5 : (n p : ℕ) → r ≡ NoMarking n p → board t b w ≡ refused n p
+  module _ (r : HeldAnswer) (h : ReadUp t b (marking t b) r) where
+    pub board-5 : (n p : ℕ) → r .answer ≡ NoMarking n p → board t b w ≡ refused n p
     unfolding board
-    board-5 n p q = let z = refused-read t b from kept runs tokens r h n p q in rw (read-fine t e, z .0, z .1, z .2)
+    board-5 n p q = let z = refused-up t b r h n p q in rw (read-fine t e, z .0, z .1, z .2)
 
-    pub board-6 : r ≡ Ended → board t b w ≡ refused 6 0
+    pub board-6 : r .answer ≡ Ended → board t b w ≡ refused 6 0
     unfolding board boardOf
-    board-6 q = let z = ended-read t b from kept runs tokens r h q in rw (read-fine t e, z .1, z .2)
+    board-6 q = let z = ended-up t b r h q in rw (read-fine t e, z .1, z .2)
 
-  module _ {y : Held} (l : LiveHeld t b y) where
+  module _ {y : Held} (l : LiveMarking t b y) where
     abbrev os : List Offer
     os = offers t (goesOver w) (l .current)
 
@@ -121,17 +120,11 @@ module _ (t b g x : List ℕ) {k : Table} (e : tableRead t ≡ good k) where
         is-board = board-is (h .sizes) (rw (s .number) at (s .few));
         full = full;
         links = links;
-        seated = record {
-          table-is = refl;
-          holds-ts = h .holds-ts;
-          offers-are = same-offers (rowsOf o links) a c h;
-          number = s .number;
-          few = s .few;
-          inside = s .inside;
-          ends-are = s .ends-are;
-        };
+        table-is = refl;
+        holds-ts = h .holds-ts;
+        offers-are = same-offers (rowsOf o links) a c h;
         listed = s;
-        holding = l .holding;
+        held-as = l .held;
       }
 
       -- the ends' answer is the board's
@@ -145,13 +138,13 @@ pub refused-board : (t b : List ℕ) (w : Terms) (o : Offers) (y : Held) (z : Se
 refused-board t b w o y z r n p e h = rw e h
 
 -- ---- what the builder is handed
-pub begun-input : (t b : List ℕ) {x : Table} → tableRead t ≡ good x → (y : Held) (codes values : List ℕ) (m : Marking) → GoodMarking t m → Holding t b m y
+pub begun-input : (t b : List ℕ) {x : Table} → tableRead t ≡ good x → (y : Held) (codes values : List ℕ) (m : Marking) → GoodMarking t m → MarkingHeld t m b [] y
     → Begun t b (y .from) (y .kept) (y .tokens) codes values (edges t) → (goes : Gates) (g z : List ℕ) → Ties t g z goes → Input t m goes g z codes values
 begun-input t b e y codes values m ok h f goes g z ties = record {
   ties = ties;
   one-value = λ j l d free. joined-passes t goes m (read-fine t e) (limits .longestPath) j l d (goes j) free;
   flat = good-flat t e;
-  starts = λ j l c. starts-are t b (y .from) (y .kept) (y .tokens) codes values (y .runs) m ok (h .nodes-held) (h .edges-held) f j l (read-good t e .edge j l .source-fits);
+  starts = λ j l c. starts-are t b (y .from) (y .kept) (y .tokens) codes values (y .runs) m ok (held-nodes h) (held-edges h) f j l (read-good t e .edge j l .source-fits);
 }
 
 -- fine guards and a fine list stand for what goes over the edges, and there is a guard for each

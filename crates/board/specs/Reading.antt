@@ -1,20 +1,20 @@
--- What is read of a board: the marking that the lent slices hold, the offers and ends of the paper's board by rows, and the ends' paths.
+-- What is read of a board: what is held of the marking, the offers and ends of the paper's board by rows, and the ends' paths.
 -- Assumes nothing.
 use Prim.Native.Nat.{ℕ, _≤_}
 use mathlib.Core.Path.{_≡_}
-use mathlib.Core.List.{List}
+use mathlib.Core.List.{List, []}
 use lib.ListN.{length}
 use Rattle.paper.specs.Answers.{refused, good}
-use Rattle.paper.specs.Offers.{Offer, Terms}
+use Rattle.paper.specs.Offers.{Offer, elem, Terms}
 use Rattle.paper.specs.Choices.{board, Board}
 use Rattle.offers.specs.declared.Offers.{Offers}
+use Rattle.offers.specs.Rows.{Holds}
 use Rattle.offers.specs.Struct.{rowsOf, Full}
 use Rattle.ends.specs.declared.EndsAnswer.{EndsAnswer}
 use Rattle.ends.specs.declared.EndsAnswer.the-variants.{Good, Refused}
 use Rattle.ends.specs.Ends.{Listed}
-use Rattle.ends_masks.specs.Seating.{Seated}
 use Rattle.marking_held.specs.declared.Held.{Held}
-use Rattle.marking_held.specs.TakenUp.{Holding}
+use Rattle.marking_held.specs.MarkingHeld.{MarkingHeld}
 
 -- the slices lent for the ends in order, each a row of the offers, and for their paths in order, each in a block of 16 cells
 pub record Seats : Type 0 where
@@ -40,9 +40,11 @@ pub record Laid (t b : List ℕ) (w : Terms) (o : Offers) (x : Held) (s : Seats)
   pub is-board : board t b w ≡ good on
   pub full : Full o
   pub links : List ℕ
-  pub seated : Seated t on (rowsOf o links) trees (s .ends) n
+  pub table-is : on .table ≡ t
+  pub holds-ts : Holds t (rowsOf o links) trees
+  pub offers-are : (y : Offer) → elem y trees ≡ elem y (on .allOffers)
   pub listed : Listed trees (on .allEnds) (s .ends) (s .order) (s .lens) (s .cells) n
-  pub holding : Holding t b (on .current) x
+  pub held-as : MarkingHeld t (on .current) b [] x
 
 -- rows 5 to 8 of a good table, and the board
 abbrev pub BoardRead : List ℕ → List ℕ → Terms → Offers → Held → Seats → EndsAnswer → Type 0

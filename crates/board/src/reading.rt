@@ -1,17 +1,18 @@
-// Rows 5 to 8: the board of a marking, guards and bounds, in lent slices but for the offers.
+// Rows 5 to 8: the board of a marking, guards and bounds. What is held and the offers go by value, the ends and their paths stand in lent slices.
 use super::starts::first_offers;
 use ends::EndsAnswer;
 use marking::MarkingAnswer;
+use marking_held::Held;
 use offers::Offers;
 use offers_all::Built;
 use table::Table;
 use terms::TermsAnswer;
 ghost use mathlib.Core.Path.{_≡_};
-ghost use mathlib.Core.List.{List};
-ghost use Prim.Native.Nat.{ℕ, _≤_};
+ghost use mathlib.Core.List.{[]};
+ghost use Prim.Native.Nat.{_≤_};
 ghost use lib.ListN.{length};
 ghost use Rattle.paper.specs.Answers.{good};
-ghost use Rattle.paper.specs.Table.{nodes, edges};
+ghost use Rattle.paper.specs.Table.{edges};
 ghost use Rattle.paper.specs.Marking.{Marking, Good};
 ghost use Rattle.paper.specs.Lists.{gather};
 ghost use Rattle.paper.specs.Offers.{terms, offers as offersOf, ends as endsOf};
@@ -22,11 +23,12 @@ ghost use Rattle.offers.specs.Rows.{Ranges};
 ghost use Rattle.terms.specs.Terms.{termsFine, Ties};
 ghost use Rattle.offers_all.specs.Stages.{Gates, Result, Whole, onEdge};
 ghost use Rattle.offers.specs.Struct.{rowsOf, Full};
-ghost use Rattle.marking_held.specs.TakenUp.{held, HeldRoom, Holding, LiveHeld};
+ghost use Rattle.marking_held.specs.MarkingHeld.{HeldLengths, MarkingHeld, LiveMarking};
 ghost use Rattle.board.specs.Reading.{seats, SeatsRoom, BoardRead};
 
-// What sheet, pick, why and step are asked about: all offers, and the number of ends or the refusal.
+// What sheet, pick, why and step are asked about: what is held, all offers, and the number of ends or the refusal.
 pub struct Board {
+    pub held: Held,
     pub offers: Offers,
     pub answer: EndsAnswer,
 }
@@ -50,9 +52,10 @@ fn none() -> Offers
 
 // No board: all is blank but the refusal.
 fn refused(number: u8, place: u8) -> Board
-    ensures { λ r. ⌜ r .answer ≡ Refused number place ⌝ }
+    ensures { λ r. ⌜ HeldLengths (r .held) × (r .answer ≡ Refused number place) ⌝ }
 {
     Board {
+        held: marking_held::nothing(),
         offers: none(),
         answer: EndsAnswer::Refused(number, place),
     }
@@ -63,19 +66,17 @@ fn offered(
     t: &[u8],
     table: Table,
     b: &[u8],
+    held: Held,
     g: &[u8],
     bounds: &[u8],
-    from: &[usize],
-    kept: &[u8],
-    tokens: &[u8],
     links: &mut [u16],
 ) -> Built
-    requires { ⌜ (tableRead (now t) ≡ good table) × (edges (now t) ≤ length (now g)) × (nodes (now t) ≤ length (now from)) × (nodes (now t) ≤ length (now kept)) × (edges (now t) ≤ length (now tokens)) × (512 ≤ length (now links)) ⌝ }
-    ensures { λ r. ⌜ (Ranges (r .from) (r .to) 64 × Full (r .offers)) × ((m : Marking) (goes : Gates) (runs : List ℕ) → Ties (now (t .entry)) (now (g .entry)) (now (bounds .entry)) goes → Good (now (t .entry)) m → Holding (now (t .entry)) (now (b .entry)) m (held (now (from .entry)) (now (kept .entry)) runs (now (tokens .entry))) → Result (now (t .entry)) m goes (rowsOf (r .offers) (now (links .exit))) (r .ok) (r .from) (r .to)) ⌝ }
+    requires { ⌜ (tableRead (now t) ≡ good table) × HeldLengths held × (edges (now t) ≤ length (now g)) × (512 ≤ length (now links)) ⌝ }
+    ensures { λ r. ⌜ (Ranges (r .from) (r .to) 64 × Full (r .offers)) × ((m : Marking) (goes : Gates) → Ties (now (t .entry)) (now (g .entry)) (now (bounds .entry)) goes → Good (now (t .entry)) m → MarkingHeld (now (t .entry)) m (now (b .entry)) [] held → Result (now (t .entry)) m goes (rowsOf (r .offers) (now (links .exit))) (r .ok) (r .from) (r .to)) ⌝ }
 {
     let mut codes = [0u8; Table::MOST_EDGES];
     let mut values = [0u32; Table::MOST_EDGES];
-    first_offers(t, table, b, from, kept, tokens, &mut codes, &mut values);
+    first_offers(t, table, b, held, &mut codes, &mut values);
     offers_all::build(t, table, g, bounds, &codes, &values, links)
 }
 
@@ -112,32 +113,31 @@ fn arranged(
     )
 }
 
-// Row 8, and the ends in order.
-fn seat(
+// Row 8, and the ends in order: the board that is laid over what is held.
+fn lay(
     t: &[u8],
     table: Table,
     b: &[u8],
+    held: Held,
     g: &[u8],
     bounds: &[u8],
-    from: &[usize],
-    kept: &[u8],
-    tokens: &[u8],
     ends: &mut [u8],
     order: &mut [u8],
     lens: &mut [u8],
     cells: &mut [u8],
 ) -> Board
-    requires { ⌜ ((tableRead (now t) ≡ good table) × (edges (now t) ≤ length (now g)) × (nodes (now t) ≤ length (now from)) × (nodes (now t) ≤ length (now kept)) × (edges (now t) ≤ length (now tokens))) × SeatsRoom (seats (now ends) (now order) (now lens) (now cells)) ⌝ }
-    ensures { λ r. ⌜ ((runs : List ℕ) → LiveHeld (now (t .entry)) (now (b .entry)) (held (now (from .entry)) (now (kept .entry)) runs (now (tokens .entry))) → termsFine (now (t .entry)) (now (g .entry)) (now (bounds .entry)) ≡ good tt → BoardRead (now (t .entry)) (now (b .entry)) (terms (now (g .entry)) (now (bounds .entry))) (r .offers) (held (now (from .entry)) (now (kept .entry)) runs (now (tokens .entry))) (seats (now (ends .exit)) (now (order .exit)) (now (lens .exit)) (now (cells .exit))) (r .answer)) ⌝ }
+    requires { ⌜ (tableRead (now t) ≡ good table) × HeldLengths held × (edges (now t) ≤ length (now g)) × SeatsRoom (seats (now ends) (now order) (now lens) (now cells)) ⌝ }
+    ensures { λ r. ⌜ HeldLengths (r .held) × (LiveMarking (now (t .entry)) (now (b .entry)) held → termsFine (now (t .entry)) (now (g .entry)) (now (bounds .entry)) ≡ good tt → BoardRead (now (t .entry)) (now (b .entry)) (terms (now (g .entry)) (now (bounds .entry))) (r .offers) (r .held) (seats (now (ends .exit)) (now (order .exit)) (now (lens .exit)) (now (cells .exit))) (r .answer)) ⌝ }
 {
     let mut links = [0u16; 512];
-    let built = offered(t, table, b, g, bounds, from, kept, tokens, &mut links);
+    let built = offered(t, table, b, held, g, bounds, &mut links);
     if !built.ok {
         return refused(8, 0);
     }
     let answer = arranged(t, table, built, &links, ends, order, lens, cells);
     let offers = built.offers;
     Board {
+        held: held,
         offers: offers,
         answer: answer,
     }
@@ -150,19 +150,17 @@ pub fn read(
     b: &[u8],
     g: &[u8],
     bounds: &[u8],
-    from: &mut [usize],
-    kept: &mut [u8],
-    runs: &mut [u8],
-    tokens: &mut [u8],
     ends: &mut [u8],
     order: &mut [u8],
     lens: &mut [u8],
     cells: &mut [u8],
 ) -> Board
-    requires { ⌜ (tableRead (now t) ≡ good table) × HeldRoom (now t) (held (now from) (now kept) (now runs) (now tokens)) × SeatsRoom (seats (now ends) (now order) (now lens) (now cells)) ⌝ }
-    ensures { λ r. ⌜ BoardRead (now (t .entry)) (now (b .entry)) (terms (now (g .entry)) (now (bounds .entry))) (r .offers) (held (now (from .exit)) (now (kept .exit)) (now (runs .exit)) (now (tokens .exit))) (seats (now (ends .exit)) (now (order .exit)) (now (lens .exit)) (now (cells .exit))) (r .answer) ⌝ }
+    requires { ⌜ (tableRead (now t) ≡ good table) × SeatsRoom (seats (now ends) (now order) (now lens) (now cells)) ⌝ }
+    ensures { λ r. ⌜ HeldLengths (r .held) × BoardRead (now (t .entry)) (now (b .entry)) (terms (now (g .entry)) (now (bounds .entry))) (r .offers) (r .held) (seats (now (ends .exit)) (now (order .exit)) (now (lens .exit)) (now (cells .exit))) (r .answer) ⌝ }
 {
-    match marking_held::take_up(t, table, b, from, kept, runs, tokens) {
+    let reading = marking_held::read_up(t, table, b);
+    let live = reading.answer;
+    match live {
         MarkingAnswer::Live => {}
         MarkingAnswer::Ended => return refused(6, 0),
         MarkingAnswer::Refused(number, place) => return refused(number, place),
@@ -170,15 +168,13 @@ pub fn read(
     if let TermsAnswer::Refused(number, place) = terms::read(t, table, g, bounds) {
         return refused(number, place);
     }
-    seat(
+    lay(
         t,
         table,
         b,
+        reading.held,
         g,
         bounds,
-        from,
-        kept,
-        tokens,
         ends,
         order,
         lens,

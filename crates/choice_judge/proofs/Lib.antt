@@ -1,3 +1,5 @@
 -- Laws of judging.
 pub mod Masks
+pub mod Parted
+pub mod Unfit
 pub mod Meaning

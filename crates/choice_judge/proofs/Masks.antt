@@ -1,173 +1,115 @@
--- What masks of ends and words of rows say: ends are counted by the ones of mask and choice. Then searches for the lowest place, and tests that
--- are asked only where they apply. Assumes nothing.
-use mathlib.Core.Path.{_≡_, refl, sym, ap, ap₂, _∙_}
-use mathlib.Core.Bool.{Bool, true, false, not, _&&_, cond, and-comm}
-use mathlib.Core.List.{List, [], _∷_}
+-- What masks of ends and words of rows say: ends are counted by the ones of mask and choice; rules 1 and 2 by words of makers and foes. Assumes nothing.
+use mathlib.Core.Path.{_≡_, sym, ap, ap₂, _∙_}
+use mathlib.Core.Logic.{⊎-elim}
+use mathlib.Core.Bool.{Bool, true, false, not, _&&_, and-comm}
+use mathlib.Core.List.{List}
 use mathlib.Core.Option.{none, some}
-use Prim.Native.Nat.{ℕ, _≤_, _<_}
+use Prim.Native.Nat.{ℕ, _^_, _≤_, _<_}
 use lib.Dec.{eqb}
 use lib.Bits.{bitAnd}
 use lib.Count.{ones}
-use borrow.Author.Tests.{eq-eqb, ne-eqb, not-true, not-false}
-use Rattle.paper.specs.Lists.{at, has, below, all, any, keep, count, _⇒_}
-use Rattle.paper.specs.Table.{nodes, edges, kind, owner, target, into, inputs, isInput, isFork}
-use Rattle.paper.proofs.Lists.{below-all, lowest-none, lowest-some, all-fails}
+use borrow.Author.Tests.{not-true, not-false}
+use Rattle.paper.specs.Lists.{at, has, below, any, count, _⇒_}
+use Rattle.paper.specs.Table.{nodes, kind, isFork}
+use Rattle.paper.proofs.Bits.{meet-has, has-meet}
+use Rattle.paper.proofs.Bools.{never, and-true, and-both, or-true, false-if}
+use Rattle.paper.proofs.Lists.{lowest-none, lowest-some}
 use Rattle.paper.proofs.Counts.{count-below-same, count-most}
-use Rattle.pick_bounds.specs.Net.{inBoth, held, meets}
-use Rattle.pick_bounds.proofs.Sets.{held-word, meets-word}
-use Rattle.table.proofs.Reading.{fails-at, fails-nowhere}
-use Rattle.offers.specs.Sets.{Marks}
-use Rattle.ends_masks.specs.Seating.{rival, rivalled, apart, siblings, makes, kept, passed, forks, seats, fits, homes}
+use Rattle.paper.proofs.Members.{any-in, in-any, below-in, in-below}
+use Rattle.words.proofs.Ones.{ones-both, some-both}
+use Rattle.offers.specs.Sets.{Marks, meets}
+use Rattle.choice_masks.specs.Masks.{Owned}
+use Rattle.ends_masks.specs.Seating.{rival, rivalled, apart, siblings, makes, kept, passed, forks, seats, served}
 use Rattle.ends_masks.proofs.Numbers.{any-below-alike, all-below-alike, lowest-alike}
 use Rattle.choice_judge.specs.Judging.{keptIn, passedIn, forksIn}
 
 -- ---- a mask and a choice
 module _ {p : ℕ → Bool} {n w : ℕ} (c : ℕ) (m : Marks p n w) where
   counted : ones (bitAnd w c) ≡ count (λ k. has c k && p k) (below n)
-  unfolding held
   counted =
-      held-word n w c (m .small)
-      ∙ count-below-same (inBoth w c) (λ k. has c k && p k) n (λ k l. ap (λ (b : Bool). b && has c k) (m .says k l) ∙ and-comm (p k) (has c k))
+      ones-both n w c (m .small)
+      ∙ count-below-same (λ k. has w k && has c k) (λ k. has c k && p k) n (λ k l. ap (λ (b : Bool). b && has c k) (m .says k l) ∙ and-comm (p k) (has c k))
 
-  met : not (eqb (bitAnd w c) 0) ≡ any (λ k. p k && has c k) (below n)
-  unfolding meets
+  met : not (eqb (bitAnd w c) 0) ≡ any (λ k. has c k && p k) (below n)
   met =
-      meets-word n w c (m .small)
-      ∙ any-below-alike (inBoth w c) (λ k. p k && has c k) n (λ k l. ap (λ (b : Bool). b && has c k) (m .says k l))
-
-  met-taken : not (eqb (bitAnd w c) 0) ≡ any (λ k. has c k && p k) (below n)
-  met-taken = met ∙ any-below-alike (λ k. p k && has c k) (λ k. has c k && p k) n (λ k l. and-comm (p k) (has c k))
+      some-both n w c (m .small)
+      ∙ any-below-alike (λ k. has w k && has c k) (λ k. has c k && p k) n (λ k l. ap (λ (b : Bool). b && has c k) (m .says k l) ∙ and-comm (p k) (has c k))
 
 -- ---- ends that are taken
+pub ones-few : (w c : ℕ) → w < 2 ^ 32 → ones (bitAnd w c) ≤ 32
+ones-few w c l = rw (ones-both 32 w c l) (count-most (λ k. has w k && has c k) 32)
+
 pub seats-mask : (column : List ℕ) (n c x w : ℕ) → Marks (λ k. eqb (at column k) x) n w → ones (bitAnd w c) ≡ seats column n c x
 unfolding seats
 seats-mask column n c x w m = counted c m
 
-pub seats-few : (column : List ℕ) (n c x : ℕ) → seats column n c x ≤ n
-unfolding seats
-seats-few column n c x = count-most (λ k. has c k && eqb (at column k) x) n
+pub served-mask : (target home : List ℕ) (n c i w : ℕ) → Owned target home n i w → not (eqb (bitAnd w c) 0) ≡ served target home n c i
+unfolding served
+served-mask target home n c i w m = met c m
 
-pub rivalled-mask : (foes makers ends : List ℕ) (n c k w : ℕ) → Marks (rival foes makers ends k) n w → not (eqb (bitAnd w c) 0) ≡ rivalled foes makers ends n c k
+pub rivalled-mask : (foes makers : List ℕ) (n c k w : ℕ) → Marks (rival foes makers k) n w → not (eqb (bitAnd w c) 0) ≡ rivalled foes makers n c k
 unfolding rivalled
-rivalled-mask foes makers ends n c k w m = met-taken c m
+rivalled-mask foes makers n c k w m = met c m
 
 -- ---- forks
-pub kept-apart : (node parents : List ℕ) (rows w z f : ℕ) → Marks (λ y. siblings node parents y z) rows f → eqb (bitAnd f w) 0 ≡ true → keptIn node parents rows w z ≡ true
-unfolding keptIn
-kept-apart node parents rows w z f m e = ap (λ (b : Bool). b ⇒ has w z) (sym (met w m) ∙ ap not e)
-
-pub kept-met : (node parents : List ℕ) (rows w z f : ℕ) → Marks (λ y. siblings node parents y z) rows f → eqb (bitAnd f w) 0 ≡ false → keptIn node parents rows w z ≡ has w z
-unfolding keptIn
-kept-met node parents rows w z f m e = ap (λ (b : Bool). b ⇒ has w z) (sym (met w m) ∙ ap not e)
-
 -- rule 2 by the word of all makers is rule 2
-module _ (node parents makers ends : List ℕ) (rows n c w : ℕ) (h : (y : ℕ) → has w y ≡ makes makers ends n c y) where
-  kept-rows : (z : ℕ) → keptIn node parents rows w z ≡ kept node parents makers ends rows n c z
+module _ (node parents makers : List ℕ) (rows n c w : ℕ) (h : (y : ℕ) → has w y ≡ makes makers n c y) where
+  kept-rows : (z : ℕ) → keptIn node parents rows w z ≡ kept node parents makers rows n c z
   unfolding keptIn kept
   kept-rows z =
       ap₂ (λ (a b : Bool). a ⇒ b)
-      (any-below-alike (λ y. siblings node parents y z && has w y) (λ y. siblings node parents y z && makes makers ends n c y) rows
+      (any-below-alike (λ y. siblings node parents y z && has w y) (λ y. siblings node parents y z && makes makers n c y) rows
       (λ y l. ap (λ (b : Bool). siblings node parents y z && b) (h y))) (h z)
 
-  passed-rows : (i : ℕ) → passedIn node parents rows w i ≡ passed node parents makers ends rows n c i
+  passed-rows : (i : ℕ) → passedIn node parents rows w i ≡ passed node parents makers rows n c i
   unfolding passedIn passed
   passed-rows i =
-      all-below-alike (λ z. eqb (at node z) i ⇒ keptIn node parents rows w z) (λ z. eqb (at node z) i ⇒ kept node parents makers ends rows n c z) rows
+      all-below-alike (λ z. eqb (at node z) i ⇒ keptIn node parents rows w z) (λ z. eqb (at node z) i ⇒ kept node parents makers rows n c z) rows
       (λ z l. ap (λ (b : Bool). eqb (at node z) i ⇒ b) (kept-rows z))
 
-  pub forks-rows : (t : List ℕ) → forksIn node parents rows w t ≡ forks node parents makers ends rows n c t
+  pub forks-rows : (t : List ℕ) → forksIn node parents rows w t ≡ forks node parents makers rows n c t
   unfolding forksIn forks
   forks-rows t =
-      lowest-alike (λ i. isFork (kind t i) && not (passedIn node parents rows w i)) (λ i. isFork (kind t i) && not (passed node parents makers ends rows n c i)) (nodes t)
+      lowest-alike (λ i. isFork (kind t i) && not (passedIn node parents rows w i)) (λ i. isFork (kind t i) && not (passed node parents makers rows n c i)) (nodes t)
       (λ i l. ap (λ (b : Bool). isFork (kind t i) && not b) (passed-rows i))
 
--- ---- edges and pins, asked of all numbers
-all-keep : {A : Type 0} (p q : A → Bool) (xs : List A) → all p (keep q xs) ≡ all (λ x. q x ⇒ p x) xs
-all-keep p q [] = refl
-all-keep p q (x ∷ xs) = by (q x) (all-keep p q xs)
-  where
-    by : (b : Bool) → all p (keep q xs) ≡ all (λ x. q x ⇒ p x) xs → all p (cond b (x ∷ keep q xs) (keep q xs)) ≡ (b ⇒ p x) && all (λ x. q x ⇒ p x) xs
-    by true e = ap (λ (r : Bool). p x && r) e
-    by false e = e
-
--- one that fails, and none
-module _ (t : List ℕ) (i : ℕ) (p : ℕ → Bool) where
-  pub into-fails : (e : ℕ) → e < edges t → eqb (target t e) i ⇒ p e ≡ false → all p (into t i) ≡ false
-  unfolding into
-  into-fails e l h = all-keep p (λ e. eqb (target t e) i) (below (edges t)) ∙ all-fails (λ e. eqb (target t e) i ⇒ p e) (edges t) e l h
-
-  pub into-passes : ((e : ℕ) → e < edges t → eqb (target t e) i ⇒ p e ≡ true) → all p (into t i) ≡ true
-  unfolding into
-  into-passes h = all-keep p (λ e. eqb (target t e) i) (below (edges t)) ∙ below-all (λ e. eqb (target t e) i ⇒ p e) (edges t) h
-
-  pub inputs-fail : (x : ℕ) → x < nodes t → isInput (kind t x) && eqb (owner t x) i ⇒ p x ≡ false → all p (inputs t i) ≡ false
-  unfolding inputs
-  inputs-fail x l h =
-      all-keep p (λ x. isInput (kind t x) && eqb (owner t x) i) (below (nodes t)) ∙ all-fails (λ x. isInput (kind t x) && eqb (owner t x) i ⇒ p x) (nodes t) x l h
-
-  pub inputs-pass : ((x : ℕ) → x < nodes t → isInput (kind t x) && eqb (owner t x) i ⇒ p x ≡ true) → all p (inputs t i) ≡ true
-  unfolding inputs
-  inputs-pass h =
-      all-keep p (λ x. isInput (kind t x) && eqb (owner t x) i) (below (nodes t)) ∙ below-all (λ x. isInput (kind t x) && eqb (owner t x) i ⇒ p x) (nodes t) h
-
-module _ (node parents : List ℕ) (rows w i : ℕ) where
-  pub passed-fails : (z : ℕ) → z < rows → eqb (at node z) i ⇒ keptIn node parents rows w z ≡ false → passedIn node parents rows w i ≡ false
-  unfolding passedIn
-  passed-fails z l h = all-fails (λ z. eqb (at node z) i ⇒ keptIn node parents rows w z) rows z l h
-
-  pub passed-all : ((z : ℕ) → z < rows → eqb (at node z) i ⇒ keptIn node parents rows w z ≡ true) → passedIn node parents rows w i ≡ true
-  unfolding passedIn
-  passed-all h = below-all (λ z. eqb (at node z) i ⇒ keptIn node parents rows w z) rows h
-
 -- ---- the lowest place
-module _ (foes makers ends : List ℕ) (n c : ℕ) where
-  pub apart-at : (k : ℕ) → ((j : ℕ) → j < k → has c j && rivalled foes makers ends n c j ≡ false) → has c k && rivalled foes makers ends n c k ≡ true
-      → k < n → apart foes makers ends n c ≡ some k
+module _ (foes makers : List ℕ) (n c : ℕ) where
+  pub apart-at : (k : ℕ) → ((j : ℕ) → j < k → has c j && rivalled foes makers n c j ≡ false) → has c k && rivalled foes makers n c k ≡ true
+      → k < n → apart foes makers n c ≡ some k
   unfolding apart
-  apart-at k h e l = lowest-some (λ k. has c k && rivalled foes makers ends n c k) n k h e l
+  apart-at k h e l = lowest-some (λ k. has c k && rivalled foes makers n c k) n k h e l
 
-  pub apart-nowhere : ((j : ℕ) → j < n → has c j && rivalled foes makers ends n c j ≡ false) → apart foes makers ends n c ≡ none
+  pub apart-nowhere : ((j : ℕ) → j < n → has c j && rivalled foes makers n c j ≡ false) → apart foes makers n c ≡ none
   unfolding apart
-  apart-nowhere h = lowest-none (λ k. has c k && rivalled foes makers ends n c k) n h
+  apart-nowhere h = lowest-none (λ k. has c k && rivalled foes makers n c k) n h
 
-module _ (node parents : List ℕ) (rows w : ℕ) (t : List ℕ) where
-  pub forks-at : (i : ℕ) → ((j : ℕ) → j < i → isFork (kind t j) && not (passedIn node parents rows w j) ≡ false)
-      → isFork (kind t i) && not (passedIn node parents rows w i) ≡ true → i < nodes t → forksIn node parents rows w t ≡ some i
-  unfolding forksIn
-  forks-at i h e l = lowest-some (λ i. isFork (kind t i) && not (passedIn node parents rows w i)) (nodes t) i h e l
+-- where the word f of the foes of taken ends and the word w of their makers have nothing in common, none competes
+pub apart-by-words : (foes makers : List ℕ) (n c f w : ℕ) → ((y : ℕ) → has f y ≡ makes foes n c y) → ((y : ℕ) → has w y ≡ makes makers n c y)
+    → ((k : ℕ) → k < n → at foes k < 2 ^ 64) → bitAnd f w ≡ 0 → apart foes makers n c ≡ none
+unfolding makes rivalled
+apart-by-words foes makers n c f w hf hw small e =
+    apart-nowhere foes makers n c (λ j l. false-if (has c j && rivalled foes makers n c j) (λ q.
+    let a = and-true (has c j) (rivalled foes makers n c j) q in
+    let r = any-in (λ k. has c k && rival foes makers j k) (below n) (a .1) in
+    let b = and-true (has c (r .0)) (rival foes makers j (r .0)) (r .2) in
+    let m = and-true (not (eqb (r .0) j)) (meets (at foes j) (at makers j) (at foes (r .0)) (at makers (r .0))) (b .1) in
+    ⊎-elim (λ z. hit j (r .0) l (in-below n (r .1)) (a .0) (b .0) z) (λ z. hit (r .0) j (in-below n (r .1)) l (b .0) (a .0) z)
+    (or-true (not (eqb (bitAnd (at foes j) (at makers (r .0))) 0)) (not (eqb (bitAnd (at foes (r .0)) (at makers j)) 0)) (m .1))))
+  where
+    -- a foe of the taken end j is a maker of the taken end k
+    hit : (j k : ℕ) → j < n → k < n → has c j ≡ true → has c k ≡ true → not (eqb (bitAnd (at foes j) (at makers k)) 0) ≡ true → ⊥
+    hit j k l g p q z =
+        let m = meet-has (at foes j) (at makers k) 64 (small j l) z in
+        let y = m .0 in
+        let x = hf y ∙ in-any (λ k. has c k && has (at foes k) y) (below-in n l) (and-both (has c j) (has (at foes j) y) p (m .2)) in
+        let v = hw y ∙ in-any (λ k. has c k && has (at makers k) y) (below-in n g) (and-both (has c k) (has (at makers k) y) q (m .3)) in
+        never (not (eqb (bitAnd f w) 0)) (has-meet f w y x v) (ap (λ (d : ℕ). not (eqb d 0)) e)
 
-  pub forks-nowhere : ((j : ℕ) → j < nodes t → isFork (kind t j) && not (passedIn node parents rows w j) ≡ false) → forksIn node parents rows w t ≡ none
-  unfolding forksIn
-  forks-nowhere h = lowest-none (λ i. isFork (kind t i) && not (passedIn node parents rows w i)) (nodes t) h
-
-module _ (t edge target home runs stock : List ℕ) (n c : ℕ) where
-  pub homes-at : (i : ℕ) → ((j : ℕ) → j < i → fits t edge target home runs stock n c j ≡ true) → fits t edge target home runs stock n c i ≡ false
-      → i < nodes t → homes t edge target home runs stock n c ≡ some i
-  unfolding homes
-  homes-at i h e l = fails-at (fits t edge target home runs stock n c) (nodes t) i h e l
-
-  pub homes-nowhere : ((j : ℕ) → j < nodes t → fits t edge target home runs stock n c j ≡ true) → homes t edge target home runs stock n c ≡ none
-  unfolding homes
-  homes-nowhere h = fails-nowhere (fits t edge target home runs stock n c) (nodes t) h
-
--- ---- rules asked only where they apply: r was read for a
-module _ {r a b : ℕ} (e : r ≡ a) (q : Bool) where
-  pub skips : (r ≡ b → ⊥) → true ≡ eqb a b ⇒ q
-  skips ne = ap (λ (x : Bool). x ⇒ q) (sym (ne-eqb a b (λ z. ne (e ∙ z))))
-
-  pub asks : r ≡ b → q ≡ eqb a b ⇒ q
-  asks z = ap (λ (x : Bool). x ⇒ q) (sym (eq-eqb a b (sym e ∙ z)))
-
--- the same where r was asked for a
+-- ---- a rule asked only where it applies: r was asked for a
 module _ {r a : Bool} (e : r ≡ a) (q : Bool) where
   pub stops : not r ≡ true → false ≡ a && q
   stops h = rw (sym e ∙ not-true r h)
 
   pub goes-on : not r ≡ false → q ≡ a && q
   goes-on h = rw (sym e ∙ not-false r h)
-
-  pub passes-by : not r ≡ true → true ≡ a ⇒ q
-  passes-by h = rw (sym e ∙ not-true r h)
-
-  pub applies : not r ≡ false → q ≡ a ⇒ q
-  applies h = rw (sym e ∙ not-false r h)

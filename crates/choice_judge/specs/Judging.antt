@@ -1,16 +1,20 @@
--- What judging a choice answers, and rule 2 said by the word of all makers of taken ends. Assumes nothing.
-use mathlib.Core.Bool.{Bool, not, _&&_}
+-- What judging a choice answers; rule 2 said by the word of all makers of taken ends, and rule 3 by masks of the ends. Assumes nothing.
+use mathlib.Core.Path.{_≡_}
+use mathlib.Core.Bool.{Bool, not, _&&_, _||_}
 use mathlib.Core.List.{List, [], _∷_}
 use mathlib.Core.Option.{Option, none, some}
-use Prim.Native.Nat.{ℕ, _≤_}
-use lib.Dec.{eqb}
+use Prim.Native.Nat.{ℕ, _+_, _≤_, _<_}
+use lib.Dec.{leb, ltb, eqb}
+use lib.Bits.{bitAnd, bitOr}
+use lib.Count.{ones}
 use lib.ListN.{length}
-use Rattle.paper.specs.Lists.{at, has, below, all, any, lowest, _⇒_}
+use Rattle.paper.specs.Lists.{at, has, below, all, any, lowest, within, _⇒_}
 use Rattle.paper.specs.Answers.{Answer, refused, good}
-use Rattle.paper.specs.Table.{nodes, kind, isFork}
-use Rattle.table.specs.Reading.{Spans}
-use Rattle.table.specs.declared.Table.{Table}
-use Rattle.ends_masks.specs.Seating.{Rowed, siblings, apart, forks, homes}
+use Rattle.paper.specs.Table.{nodes, kind, owner, lower, upper, target, isAction, isInput, isFork, isBuffer, isOutgoing}
+use Rattle.words.specs.Marks.{placed}
+use Rattle.offers.specs.declared.Offers.{Offers}
+use Rattle.ends_masks.specs.declared.Ends.{Ends}
+use Rattle.ends_masks.specs.Seating.{siblings, apart, forks, homes}
 use Rattle.choice_judge.specs.declared.Judged.{Judged}
 use Rattle.choice_judge.specs.declared.Judged.the-variants.{Fine, Refused}
 use Rattle.choice_judge.specs.declared.Found.{Found}
@@ -27,11 +31,11 @@ found (At i) = some i
 found Nothing = none
 
 -- the rules with their numbers, in order
-module _ (t node parents makers foes ends edge target home runs stock : List ℕ) (rows n : ℕ) where
+module _ (t : List ℕ) (o : Offers) (e : Ends) (runs stock : List ℕ) where
   abbrev pub rowRules : List (ℕ × (ℕ → Option ℕ))
   rowRules =
-      (10, apart foes makers ends n) ∷ (11, λ c. forks node parents makers ends rows n c t)
-      ∷ (12, homes t edge target home runs stock n) ∷ []
+      (10, apart (e .foes) (e .makers) (e .count)) ∷ (11, λ c. forks (o .node) (o .parents) (e .makers) (o .count) (e .count) c t)
+      ∷ (12, homes t (e .edge) (e .target) (e .home) runs stock (e .count)) ∷ []
 
 -- rule 2, where the word w has the makers of taken ends
 module _ (node parents : List ℕ) (rows w : ℕ) where
@@ -41,20 +45,42 @@ module _ (node parents : List ℕ) (rows w : ℕ) where
   unfoldable pub passedIn : ℕ → Bool
   passedIn i = all (λ z. eqb (at node z) i ⇒ keptIn z) (below rows)
 
-  unfoldable pub forksIn : List ℕ → Option ℕ
-  forksIn t = lowest (λ i. isFork (kind t i) && not (passedIn i)) (nodes t)
+  -- node i is a fork that is not passed whole
+  abbrev pub partedAt : List ℕ → ℕ → Bool
+  partedAt t i = isFork (kind t i) && not (passedIn i)
 
--- the slices are long enough, and the table was read
-pub record Lent (t node parents makers foes ends edge target home runs stock : List ℕ) (table : Table) (rows n : ℕ) : Type 0 where
-  pub spans : Spans t table
-  pub rows-node : rows ≤ length node
-  pub rows-parents : rows ≤ length parents
-  pub few-rows : rows ≤ 64
-  pub ends-makers : Rowed ends n (length makers)
-  pub ends-foes : Rowed ends n (length foes)
-  pub few-ends : n ≤ 20
-  pub ends-edge : n ≤ length edge
-  pub ends-target : n ≤ length target
-  pub ends-home : n ≤ length home
-  pub nodes-runs : nodes t ≤ length runs
-  pub nodes-stock : nodes t ≤ length stock
+  unfoldable pub forksIn : List ℕ → Option ℕ
+  forksIn t = lowest (partedAt t) (nodes t)
+
+  -- row z leaves a fork and is left out, where a sibling of it is not
+  unfoldable pub leftOut : List ℕ → ℕ → Bool
+  leftOut t z = ltb (at node z) (nodes t) && isFork (kind t (at node z)) && not (keptIn z)
+
+-- for each node, the word of what the rows of w below j that leave it were made from
+pub record PassedOn (node parents : List ℕ) (w j : ℕ) (passed : List ℕ) : Type 0 where
+  pub digits : (i : ℕ) → i < length passed → (b : ℕ) → has (at passed i) b ≡ placed (λ y. has w y && has (at parents y) b) (at node) j i
+
+-- ---- rule 3, by masks of the ends
+-- how many ends of the mask of x are taken
+abbrev pub took : List ℕ → ℕ → ℕ → ℕ
+took masks c x = ones (bitAnd (at masks x) c)
+
+-- node i is an action to which a taken end belongs
+abbrev pub startsIn : List ℕ → List ℕ → List ℕ → ℕ → ℕ → Bool
+startsIn t byTarget byHome c i = isAction (kind t i) && not (eqb (bitAnd (bitOr (at byTarget i) (at byHome i)) c) 0)
+
+-- what is wrong, where s says which actions start
+module _ (t : List ℕ) (s : ℕ → Bool) (c : ℕ) where
+  -- edge e goes into one, and none or more than one end is taken on it
+  unfoldable pub edgeWrong : List ℕ → ℕ → Bool
+  edgeWrong byEdge e = s (target t e) && not (eqb (took byEdge c e) 1)
+
+  -- p is an input pin of one, and fewer or more ends are taken at it than it wants
+  unfoldable pub pinWrong : List ℕ → ℕ → Bool
+  pinWrong byTarget p = isInput (kind t p) && s (owner t p) && not (within (lower t p) (upper t p) (took byTarget c p))
+
+  -- node i is one that runs, or a store without room for what is taken
+  unfoldable pub nodeWrong : List ℕ → List ℕ → List ℕ → ℕ → Bool
+  nodeWrong byTarget runs stock i =
+      (s i && not (eqb (at runs i) 0))
+      || ((isBuffer (kind t i) || isOutgoing (kind t i)) && not (leb (at stock i + took byTarget c i) (upper t i)))

@@ -1,17 +1,26 @@
-// The rules on choices, asked of one choice: the first that refuses it, with its place. Ends are counted by masks of ends.
+// The rules on choices, asked of one choice: the first that refuses it, with its place. Rows, edges and pins that break a rule mark the node that it is
+// told of, and the lowest mark is the answer. Ends are counted by the ones of mask and choice.
 // Assumes no more than its `requires`: slices that are long enough, and a table that was read.
 ghost use mathlib.Core.Path.{_≡_};
-ghost use mathlib.Core.Bool.{not, _&&_, _||_};
+ghost use mathlib.Core.Bool.{Bool, not, _&&_, _||_};
 ghost use mathlib.Core.List.{List};
-ghost use Prim.Native.Nat.{ℕ, _+_, _≤_, _<_};
-ghost use lib.Dec.{leb, eqb};
-ghost use lib.ListN.{length};
-ghost use Rattle.paper.specs.Lists.{at, has, all, within, _⇒_};
-ghost use Rattle.paper.specs.Answers.{judgedBy};
-ghost use Rattle.paper.specs.Table.{nodes, kind, owner, lower, upper, into, inputs, isAction, isInput, isFork, isBuffer, isOutgoing, target as targetOf};
-ghost use Rattle.table.specs.Reading.{Spans};
-ghost use Rattle.ends_masks.specs.Seating.{Rowed, rivalled, apart, seats, served, actionFits, fits, homes};
-ghost use Rattle.choice_judge.specs.Judging.{said, found, rowRules, keptIn, passedIn, forksIn, Lent};
+ghost use Prim.Native.Nat.{ℕ, _≤_, _<_};
+ghost use lib.Bits.{bitAnd, bitOr};
+ghost use lib.Count.{ones};
+ghost use lib.ListN.{length, set};
+ghost use Rattle.paper.specs.Lists.{at, has, lowest};
+ghost use Rattle.paper.specs.Answers.{good, judgedBy};
+ghost use Rattle.paper.specs.Table.{nodes, edges, owner, target as targetOf};
+ghost use Rattle.words.specs.Marks.{MarksOf, isMarked, placed};
+ghost use Rattle.table.specs.Reading.{Spans, Blank, tableRead};
+ghost use Rattle.offers.specs.Struct.{Full};
+ghost use Rattle.choice_masks.specs.Masks.{Masks};
+ghost use Rattle.ends_masks.specs.Seating.{EndsFull, rivalled, apart, makes, homes};
+ghost use Rattle.marking_held.specs.MarkingHeld.{HeldLengths};
+ghost use Rattle.choice_judge.specs.Judging.{said, found, rowRules, forksIn, partedAt, leftOut, PassedOn, startsIn, edgeWrong, pinWrong, nodeWrong};
+use ends_masks::Ends;
+use marking_held::Held;
+use offers::Offers;
 use table::Table;
 
 // Whether the choice is acceptable, or the refusal's number and its place.
@@ -26,103 +35,14 @@ enum Found {
     Nothing,
 }
 
-// ---- sets as words
-
-// How many taken ends have x in a column.
-fn seated(column: &[u8], n: usize, c: u32, x: usize) -> usize
-    requires { ⌜ (n ≤ length (now column)) × (n ≤ 20) ⌝ }
-    ensures { λ r. ⌜ (r ≡ seats (now (column .entry)) n c x) × (r ≤ 20) ⌝ }
+// The lowest of the first n places that is marked.
+fn lowest_marked(marks: &[u8], n: usize) -> Found
+    requires { ⌜ (n ≤ length (now marks)) × (n ≤ 256) ⌝ }
+    ensures { λ r. ⌜ ((p : ℕ → Bool) → MarksOf p n (now (marks .entry)) → found r ≡ lowest p n) ⌝ }
 {
-    u32::count_ones(ends_masks::same(column, n, x) & c) as usize
-}
-
-// ---- "no two of its ends compete"
-
-// Whether end k is taken and competes with a taken one.
-fn is_rivalled(foes: &[u64], makers: &[u64], ends: &[u8], n: usize, c: u32, k: usize) -> bool
-    requires { ⌜ Rowed (now ends) n (length (now makers)) × Rowed (now ends) n (length (now foes)) × (k < n) × (n ≤ 20) ⌝ }
-    ensures { λ r. ⌜ r ≡ has c k && rivalled (now (foes .entry)) (now (makers .entry)) (now (ends .entry)) n c k ⌝ }
-{
-    if !choice::is_taken(c, k) {
-        return false;
-    }
-    ends_masks::rivals(foes, makers, ends, n, k) & c != 0
-}
-
-// The lowest taken end that competes with a taken one.
-fn rivalled_end(foes: &[u64], makers: &[u64], ends: &[u8], n: usize, c: u32) -> Found
-    requires { ⌜ Rowed (now ends) n (length (now makers)) × Rowed (now ends) n (length (now foes)) × (n ≤ 20) ⌝ }
-    ensures { λ r. ⌜ found r ≡ apart (now (foes .entry)) (now (makers .entry)) (now (ends .entry)) n c ⌝ }
-{
-    let mut k: usize = 0;
-    while k < n {
-        if is_rivalled(foes, makers, ends, n, c, k) {
-            return Found::At(k as u8);
-        }
-        k += 1;
-    }
-    Found::Nothing
-}
-
-// ---- "forks are passed whole"
-
-// Where a sibling of row z is in the word w, z is too; asked of the rows that leave node i.
-fn is_kept(node: &[u8], parents: &[u64], rows: usize, w: u64, i: usize, z: usize) -> bool
-    requires { ⌜ (rows ≤ length (now node)) × (rows ≤ length (now parents)) × (rows ≤ 64) × (z < rows) ⌝ }
-    ensures { λ r. ⌜ r ≡ eqb (at (now (node .entry)) z) i ⇒ keptIn (now (node .entry)) (now (parents .entry)) rows w z ⌝ }
-{
-    if wire::wide(node[z]) != i {
-        return true;
-    }
-    if ends_masks::family(node, parents, rows, z) & w == 0 {
-        return true;
-    }
-    words::in_word(w, z)
-}
-
-// Every row that leaves node i is kept.
-fn is_passed(node: &[u8], parents: &[u64], rows: usize, w: u64, i: usize) -> bool
-    requires { ⌜ (rows ≤ length (now node)) × (rows ≤ length (now parents)) × (rows ≤ 64) ⌝ }
-    ensures { λ r. ⌜ r ≡ passedIn (now (node .entry)) (now (parents .entry)) rows w i ⌝ }
-{
-    let mut z: usize = 0;
-    while z < rows {
-        if !is_kept(node, parents, rows, w, i, z) {
-            return false;
-        }
-        z += 1;
-    }
-    true
-}
-
-// Node i is a fork that is not passed whole.
-fn is_parted(
-    t: &[u8],
-    table: Table,
-    node: &[u8],
-    parents: &[u64],
-    rows: usize,
-    w: u64,
-    i: usize,
-) -> bool
-    requires { ⌜ Spans (now t) table × (i < table .nodes) × (rows ≤ length (now node)) × (rows ≤ length (now parents)) × (rows ≤ 64) ⌝ }
-    ensures { λ r. ⌜ r ≡ isFork (kind (now (t .entry)) i) && not (passedIn (now (node .entry)) (now (parents .entry)) rows w i) ⌝ }
-{
-    if table.kind(t, i) != Table::FORK {
-        return false;
-    }
-    !is_passed(node, parents, rows, w, i)
-}
-
-// The lowest fork that is not passed whole.
-fn parted_fork(t: &[u8], table: Table, node: &[u8], parents: &[u64], rows: usize, w: u64) -> Found
-    requires { ⌜ Spans (now t) table × (rows ≤ length (now node)) × (rows ≤ length (now parents)) × (rows ≤ 64) ⌝ }
-    ensures { λ r. ⌜ found r ≡ forksIn (now (node .entry)) (now (parents .entry)) rows w (now (t .entry)) ⌝ }
-{
-    let count = table.nodes;
     let mut i: usize = 0;
-    while i < count {
-        if is_parted(t, table, node, parents, rows, w, i) {
+    while i < n {
+        if marks[i] != 0 {
             return Found::At(i as u8);
         }
         i += 1;
@@ -130,147 +50,316 @@ fn parted_fork(t: &[u8], table: Table, node: &[u8], parents: &[u64], rows: usize
     Found::Nothing
 }
 
+// ---- "no two of its ends compete"
+
+// Whether end k is taken and competes with a taken one.
+fn is_rivalled(foes: &[u64], makers: &[u64], n: usize, c: u32, k: usize) -> bool
+    requires { ⌜ (n ≤ length (now foes)) × (n ≤ length (now makers)) × (k < n) × (n ≤ 20) ⌝ }
+    ensures { λ r. ⌜ r ≡ has c k && rivalled (now (foes .entry)) (now (makers .entry)) n c k ⌝ }
+{
+    if !choice::is_taken(c, k) {
+        return false;
+    }
+    ends_masks::rivals(foes, makers, n, k) & c != 0
+}
+
+// The lowest taken end that competes with a taken one.
+fn rivalled_end(foes: &[u64], makers: &[u64], n: usize, c: u32) -> Found
+    requires { ⌜ (n ≤ length (now foes)) × (n ≤ length (now makers)) × (n ≤ 20) ⌝ }
+    ensures { λ r. ⌜ found r ≡ apart (now (foes .entry)) (now (makers .entry)) n c ⌝ }
+{
+    let mut k: usize = 0;
+    while k < n {
+        if is_rivalled(foes, makers, n, c, k) {
+            return Found::At(k as u8);
+        }
+        k += 1;
+    }
+    Found::Nothing
+}
+
+// The same, by the word w of the makers of taken ends: where it has no foe of a taken end, none competes.
+fn competing_end(foes: &[u64], makers: &[u64], n: usize, c: u32, w: u64) -> Found
+    requires { ⌜ (n ≤ length (now foes)) × (n ≤ length (now makers)) × (n ≤ 20) ⌝ }
+    ensures { λ r. ⌜ (((y : ℕ) → has w y ≡ makes (now (makers .entry)) n c y) → found r ≡ apart (now (foes .entry)) (now (makers .entry)) n c) ⌝ }
+{
+    if ends_masks::all_makers(foes, n, c) & w == 0 {
+        return Found::Nothing;
+    }
+    rivalled_end(foes, makers, n, c)
+}
+
+// ---- "forks are passed whole"
+
+// What row y was made from, if it is in the word.
+fn made_from(parents: &[u64], w: u64, y: usize) -> u64
+    requires { ⌜ (y < length (now parents)) × (y < 64) ⌝ }
+    ensures { λ r. ⌜ ((b : ℕ) → has r b ≡ has w y && has (at (now (parents .entry)) y) b) ⌝ }
+{
+    if !words::in_word(w, y) {
+        return 0;
+    }
+    parents[y]
+}
+
+// Offers, in the word of node i; past the last word there is none to put them in.
+fn add_offers(passed: &mut [u64], i: usize, x: u64)
+    ensures { λ _. ⌜ now (passed .exit) ≡ set (now (passed .entry)) i (bitOr (at (now (passed .entry)) i) x) ⌝ }
+{
+    if passed.len() <= i {
+        return;
+    }
+    passed[i] = passed[i] | x;
+}
+
+// For each node, what the rows of the word w that leave it were made from.
+fn fill_passed(node: &[u8], parents: &[u64], rows: usize, w: u64, passed: &mut [u64])
+    requires { ⌜ (rows ≤ length (now node)) × (rows ≤ length (now parents)) × (rows ≤ 64) ⌝ }
+    ensures { λ _. ⌜ (Blank (now (passed .entry)) → PassedOn (now (node .entry)) (now (parents .entry)) w rows (now (passed .exit))) ⌝ }
+{
+    let mut y: usize = 0;
+    while y < rows {
+        add_offers(passed, wire::wide(node[y]), made_from(parents, w, y));
+        y += 1;
+    }
+}
+
+// Whether row z leaves a fork and is not in the word w, though a row there was made from an offer in common with it.
+fn is_left_out(
+    t: &[u8],
+    table: Table,
+    node: &[u8],
+    parents: &[u64],
+    w: u64,
+    passed: &[u64],
+    z: usize,
+) -> bool
+    requires { ⌜ Spans (now t) table × (z < length (now node)) × (z < length (now parents)) × (z < 64) × (table .nodes ≤ length (now passed)) ⌝ }
+    ensures { λ r. ⌜ ((rows : ℕ) → PassedOn (now (node .entry)) (now (parents .entry)) w rows (now (passed .entry)) → r ≡ leftOut (now (node .entry)) (now (parents .entry)) rows w (now (t .entry)) z) ⌝ }
+{
+    let i = wire::wide(node[z]);
+    if table.nodes <= i {
+        return false;
+    }
+    if table.kind(t, i) != Table::FORK {
+        return false;
+    }
+    if words::in_word(w, z) {
+        return false;
+    }
+    parents[z] & passed[i] != 0
+}
+
+// Marks the forks that are not passed whole.
+fn mark_parted(
+    t: &[u8],
+    table: Table,
+    node: &[u8],
+    parents: &[u64],
+    rows: usize,
+    w: u64,
+    passed: &[u64],
+    parted: &mut [u8],
+)
+    requires { ⌜ Spans (now t) table × (rows ≤ length (now node)) × (rows ≤ length (now parents)) × (rows ≤ 64) × (table .nodes ≤ length (now passed)) × (table .nodes ≤ length (now parted)) ⌝ }
+    ensures { λ _. ⌜ (PassedOn (now (node .entry)) (now (parents .entry)) w rows (now (passed .entry)) → Blank (now (parted .entry)) → MarksOf (partedAt (now (node .entry)) (now (parents .entry)) rows w (now (t .entry))) (table .nodes) (now (parted .exit))) ⌝ }
+{
+    let mut z: usize = 0;
+    while z < rows {
+        words::mark(
+            parted,
+            is_left_out(t, table, node, parents, w, passed, z),
+            wire::wide(node[z]),
+        );
+        z += 1;
+    }
+}
+
+// The lowest fork that is not passed whole.
+fn parted_fork(t: &[u8], table: Table, node: &[u8], parents: &[u64], rows: usize, w: u64) -> Found
+    requires { ⌜ Spans (now t) table × (rows ≤ length (now node)) × (rows ≤ length (now parents)) × (rows ≤ 64) ⌝ }
+    ensures { λ r. ⌜ found r ≡ forksIn (now (node .entry)) (now (parents .entry)) rows w (now (t .entry)) ⌝ }
+{
+    let mut passed = [0u64; Table::MOST_NODES];
+    fill_passed(node, parents, rows, w, &mut passed);
+    let mut parted = [0u8; Table::MOST_NODES];
+    mark_parted(t, table, node, parents, rows, w, &passed, &mut parted);
+    lowest_marked(&parted, table.nodes)
+}
+
 // ---- "each destination agrees"
 
-// If edge e goes into node i, one end is taken on it.
-fn edge_fits(t: &[u8], table: Table, edge: &[u8], n: usize, c: u32, i: usize, e: usize) -> bool
-    requires { ⌜ Spans (now t) table × (e < table .edges) × (n ≤ length (now edge)) × (n ≤ 20) ⌝ }
-    ensures { λ r. ⌜ r ≡ eqb (targetOf (now (t .entry)) e) i ⇒ eqb (seats (now (edge .entry)) n c e) 1 ⌝ }
+// How many ends of a mask are taken.
+fn taken_of(mask: u32, c: u32) -> usize
+    ensures { λ r. ⌜ (r ≡ ones (bitAnd mask c)) × (r ≤ 32) ⌝ }
 {
-    if table.target(t, e) != i {
-        return true;
-    }
-    seated(edge, n, c, e) == 1
+    u32::count_ones(mask & c) as usize
 }
 
-// One end is taken on each edge into node i.
-fn edges_fit(t: &[u8], table: Table, edge: &[u8], n: usize, c: u32, i: usize) -> bool
-    requires { ⌜ Spans (now t) table × (n ≤ length (now edge)) × (n ≤ 20) ⌝ }
-    ensures { λ r. ⌜ r ≡ all (λ e. eqb (seats (now (edge .entry)) n c e) 1) (into (now (t .entry)) i) ⌝ }
-{
-    let count = table.edges;
-    let mut e: usize = 0;
-    while e < count {
-        if !edge_fits(t, table, edge, n, c, i, e) {
-            return false;
-        }
-        e += 1;
-    }
-    true
-}
-
-// If p is an input pin of action i, as many ends are taken at it as it wants.
-fn pin_fits(t: &[u8], table: Table, target: &[u8], n: usize, c: u32, i: usize, p: usize) -> bool
-    requires { ⌜ Spans (now t) table × (p < table .nodes) × (n ≤ length (now target)) × (n ≤ 20) ⌝ }
-    ensures { λ r. ⌜ r ≡ isInput (kind (now (t .entry)) p) && eqb (owner (now (t .entry)) p) i ⇒ within (lower (now (t .entry)) p) (upper (now (t .entry)) p) (seats (now (target .entry)) n c p) ⌝ }
-{
-    if table.kind(t, p) != Table::INPUT {
-        return true;
-    }
-    if table.owner(t, p) != i {
-        return true;
-    }
-    let k = seated(target, n, c, p);
-    let low = table.lower(t, p);
-    let high = table.upper(t, p);
-    low <= k && k <= high
-}
-
-// As many ends are taken at each input pin of action i as it wants.
-fn pins_fit(t: &[u8], table: Table, target: &[u8], n: usize, c: u32, i: usize) -> bool
-    requires { ⌜ Spans (now t) table × (n ≤ length (now target)) × (n ≤ 20) ⌝ }
-    ensures { λ r. ⌜ r ≡ all (λ p. within (lower (now (t .entry)) p) (upper (now (t .entry)) p) (seats (now (target .entry)) n c p)) (inputs (now (t .entry)) i) ⌝ }
-{
-    let count = table.nodes;
-    let mut p: usize = 0;
-    while p < count {
-        if !pin_fits(t, table, target, n, c, i, p) {
-            return false;
-        }
-        p += 1;
-    }
-    true
-}
-
-// Action i is idle, and its edges and pins have what they want.
-fn action_fits(
-    t: &[u8],
-    table: Table,
-    edge: &[u8],
-    target: &[u8],
-    n: usize,
-    runs: &[u8],
-    c: u32,
-    i: usize,
-) -> bool
-    requires { ⌜ Spans (now t) table × (i < length (now runs)) × (n ≤ length (now edge)) × (n ≤ length (now target)) × (n ≤ 20) ⌝ }
-    ensures { λ r. ⌜ ((home stock : List ℕ) → r ≡ actionFits (now (t .entry)) (now (edge .entry)) (now (target .entry)) home (now (runs .entry)) stock n c i) ⌝ }
-{
-    if runs[i] != 0 {
-        return false;
-    }
-    if !edges_fit(t, table, edge, n, c, i) {
-        return false;
-    }
-    pins_fit(t, table, target, n, c, i)
-}
-
-// If node i is an action with a taken end, it can run.
-fn action_agrees(
-    t: &[u8],
-    table: Table,
-    edge: &[u8],
-    target: &[u8],
-    home: &[u8],
-    n: usize,
-    runs: &[u8],
-    c: u32,
-    i: usize,
-) -> bool
-    requires { ⌜ Spans (now t) table × (i < table .nodes) × (i < length (now runs)) × (n ≤ length (now edge)) × (n ≤ length (now target)) × (n ≤ length (now home)) × (n ≤ 20) ⌝ }
-    ensures { λ r. ⌜ ((stock : List ℕ) → r ≡ isAction (kind (now (t .entry)) i) && served (now (target .entry)) (now (home .entry)) n c i ⇒ actionFits (now (t .entry)) (now (edge .entry)) (now (target .entry)) (now (home .entry)) (now (runs .entry)) stock n c i) ⌝ }
+// Whether node i is an action to which a taken end belongs.
+fn is_starting(t: &[u8], table: Table, by_target: &[u32], by_home: &[u32], c: u32, i: usize) -> bool
+    requires { ⌜ Spans (now t) table × (i < table .nodes) × (i < length (now «by_target»)) × (i < length (now «by_home»)) ⌝ }
+    ensures { λ r. ⌜ r ≡ startsIn (now (t .entry)) (now («by_target» .entry)) (now («by_home» .entry)) c i ⌝ }
 {
     if table.kind(t, i) != Table::ACTION {
-        return true;
+        return false;
     }
-    if !ends_masks::is_served(target, home, n, c, i) {
-        return true;
-    }
-    action_fits(t, table, edge, target, n, runs, c, i)
+    choice_masks::owned(by_target, by_home, i) & c != 0
 }
 
-// If node i is a buffer or an outgoing parameter, what is taken fits beside its stock before the step.
-fn has_room(t: &[u8], table: Table, target: &[u8], n: usize, stock: &[u8], c: u32, i: usize) -> bool
-    requires { ⌜ Spans (now t) table × (i < table .nodes) × (i < length (now stock)) × (n ≤ length (now target)) × (n ≤ 20) ⌝ }
-    ensures { λ r. ⌜ r ≡ isBuffer (kind (now (t .entry)) i) || isOutgoing (kind (now (t .entry)) i) ⇒ leb (at (now (stock .entry)) i + seats (now (target .entry)) n c i) (upper (now (t .entry)) i) ⌝ }
-{
-    if !table::is_store(table.kind(t, i)) {
-        return true;
-    }
-    let k = seated(target, n, c, i);
-    wire::wide(stock[i]) + k <= table.upper(t, i)
-}
-
-// Node i agrees with what is taken.
-fn node_fits(
+// Marks the actions to which a taken end belongs.
+fn mark_starting(
     t: &[u8],
     table: Table,
-    edge: &[u8],
-    target: &[u8],
-    home: &[u8],
-    n: usize,
+    by_target: &[u32],
+    by_home: &[u32],
+    c: u32,
+    starting: &mut [u8],
+)
+    requires { ⌜ Spans (now t) table × (table .nodes ≤ length (now «by_target»)) × (table .nodes ≤ length (now «by_home»)) × (table .nodes ≤ length (now starting)) ⌝ }
+    ensures { λ _. ⌜ (Blank (now (starting .entry)) → MarksOf (startsIn (now (t .entry)) (now («by_target» .entry)) (now («by_home» .entry)) c) (table .nodes) (now (starting .exit))) ⌝ }
+{
+    let n = table.nodes;
+    let mut i: usize = 0;
+    while i < n {
+        words::mark(starting, is_starting(t, table, by_target, by_home, c, i), i);
+        i += 1;
+    }
+}
+
+// Whether edge e goes into an action that starts, and none or more than one end is taken on it.
+fn edge_wrong(t: &[u8], table: Table, by_edge: &[u32], starting: &[u8], c: u32, e: usize) -> bool
+    requires { ⌜ Spans (now t) table × (e < table .edges) × (e < length (now «by_edge»)) ⌝ }
+    ensures { λ r. ⌜ r ≡ edgeWrong (now (t .entry)) (isMarked (now (starting .entry))) c (now («by_edge» .entry)) e ⌝ }
+{
+    if !words::is_marked(starting, table.target(t, e)) {
+        return false;
+    }
+    taken_of(by_edge[e], c) != 1
+}
+
+// Marks the actions that start without one end on each of their edges.
+fn mark_edges(t: &[u8], table: Table, by_edge: &[u32], starting: &[u8], c: u32, unfit: &mut [u8])
+    requires { ⌜ Spans (now t) table × (table .edges ≤ length (now «by_edge»)) × (table .nodes ≤ length (now unfit)) ⌝ }
+    ensures { λ _. ⌜ ((p : ℕ → Bool) → MarksOf p (table .nodes) (now (unfit .entry)) → MarksOf (λ i. p i || placed (edgeWrong (now (t .entry)) (isMarked (now (starting .entry))) c (now («by_edge» .entry))) (targetOf (now (t .entry))) (edges (now (t .entry))) i) (table .nodes) (now (unfit .exit))) ⌝ }
+{
+    let n = table.edges;
+    let mut e: usize = 0;
+    while e < n {
+        words::mark(
+            unfit,
+            edge_wrong(t, table, by_edge, starting, c, e),
+            table.target(t, e),
+        );
+        e += 1;
+    }
+}
+
+// Whether p is an input pin of an action that starts, and fewer or more ends are taken at it than it wants.
+fn pin_wrong(t: &[u8], table: Table, by_target: &[u32], starting: &[u8], c: u32, p: usize) -> bool
+    requires { ⌜ Spans (now t) table × (p < table .nodes) × (p < length (now «by_target»)) ⌝ }
+    ensures { λ r. ⌜ r ≡ pinWrong (now (t .entry)) (isMarked (now (starting .entry))) c (now («by_target» .entry)) p ⌝ }
+{
+    if table.kind(t, p) != Table::INPUT {
+        return false;
+    }
+    if !words::is_marked(starting, table.owner(t, p)) {
+        return false;
+    }
+    let k = taken_of(by_target[p], c);
+    if k < table.lower(t, p) {
+        return true;
+    }
+    table.upper(t, p) < k
+}
+
+// Marks the actions that start without what their pins want.
+fn mark_pins(t: &[u8], table: Table, by_target: &[u32], starting: &[u8], c: u32, unfit: &mut [u8])
+    requires { ⌜ Spans (now t) table × (table .nodes ≤ length (now «by_target»)) × (table .nodes ≤ length (now unfit)) ⌝ }
+    ensures { λ _. ⌜ ((p : ℕ → Bool) → MarksOf p (table .nodes) (now (unfit .entry)) → MarksOf (λ i. p i || placed (pinWrong (now (t .entry)) (isMarked (now (starting .entry))) c (now («by_target» .entry))) (owner (now (t .entry))) (nodes (now (t .entry))) i) (table .nodes) (now (unfit .exit))) ⌝ }
+{
+    let n = table.nodes;
+    let mut p: usize = 0;
+    while p < n {
+        words::mark(
+            unfit,
+            pin_wrong(t, table, by_target, starting, c, p),
+            table.owner(t, p),
+        );
+        p += 1;
+    }
+}
+
+// Whether node i starts though it runs, or is a store in which what is taken has no room beside its stock before the step.
+fn node_wrong(
+    t: &[u8],
+    table: Table,
+    by_target: &[u32],
+    starting: &[u8],
     runs: &[u8],
     stock: &[u8],
     c: u32,
     i: usize,
 ) -> bool
-    requires { ⌜ Spans (now t) table × (i < table .nodes) × (i < length (now runs)) × (i < length (now stock)) × (n ≤ length (now edge)) × (n ≤ length (now target)) × (n ≤ length (now home)) × (n ≤ 20) ⌝ }
-    ensures { λ r. ⌜ r ≡ fits (now (t .entry)) (now (edge .entry)) (now (target .entry)) (now (home .entry)) (now (runs .entry)) (now (stock .entry)) n c i ⌝ }
+    requires { ⌜ Spans (now t) table × (i < table .nodes) × (i < length (now «by_target»)) × (i < length (now runs)) × (i < length (now stock)) ⌝ }
+    ensures { λ r. ⌜ r ≡ nodeWrong (now (t .entry)) (isMarked (now (starting .entry))) c (now («by_target» .entry)) (now (runs .entry)) (now (stock .entry)) i ⌝ }
 {
-    if !action_agrees(t, table, edge, target, home, n, runs, c, i) {
+    if words::is_marked(starting, i) && runs[i] != 0 {
+        return true;
+    }
+    if !table::is_store(table.kind(t, i)) {
         return false;
     }
-    has_room(t, table, target, n, stock, c, i)
+    table.upper(t, i) < wire::wide(stock[i]) + taken_of(by_target[i], c)
+}
+
+// Marks the nodes that are wrong by themselves.
+fn mark_nodes(
+    t: &[u8],
+    table: Table,
+    by_target: &[u32],
+    starting: &[u8],
+    runs: &[u8],
+    stock: &[u8],
+    c: u32,
+    unfit: &mut [u8],
+)
+    requires { ⌜ Spans (now t) table × (table .nodes ≤ length (now «by_target»)) × (table .nodes ≤ length (now runs)) × (table .nodes ≤ length (now stock)) × (table .nodes ≤ length (now unfit)) ⌝ }
+    ensures { λ _. ⌜ ((p : ℕ → Bool) → MarksOf p (table .nodes) (now (unfit .entry)) → MarksOf (λ i. p i || nodeWrong (now (t .entry)) (isMarked (now (starting .entry))) c (now («by_target» .entry)) (now (runs .entry)) (now (stock .entry)) i) (table .nodes) (now (unfit .exit))) ⌝ }
+{
+    let n = table.nodes;
+    let mut i: usize = 0;
+    while i < n {
+        words::mark(
+            unfit,
+            node_wrong(t, table, by_target, starting, runs, stock, c, i),
+            i,
+        );
+        i += 1;
+    }
+}
+
+// The lowest node that doesn't agree with what is taken, by the masks of the ends.
+fn unfit_by_masks(
+    t: &[u8],
+    table: Table,
+    by_edge: &[u32],
+    by_target: &[u32],
+    by_home: &[u32],
+    runs: &[u8],
+    stock: &[u8],
+    c: u32,
+) -> Found
+    requires { ⌜ Spans (now t) table × (table .edges ≤ length (now «by_edge»)) × (table .nodes ≤ length (now «by_target»)) × (table .nodes ≤ length (now «by_home»)) × (table .nodes ≤ length (now runs)) × (table .nodes ≤ length (now stock)) ⌝ }
+    ensures { λ r. ⌜ ((edge target home : List ℕ) (n : ℕ) → Masks table edge target home n (now («by_edge» .entry)) (now («by_target» .entry)) (now («by_home» .entry)) → found r ≡ homes (now (t .entry)) edge target home (now (runs .entry)) (now (stock .entry)) n c) ⌝ }
+{
+    let mut starting = [0u8; Table::MOST_NODES];
+    mark_starting(t, table, by_target, by_home, c, &mut starting);
+    let mut unfit = [0u8; Table::MOST_NODES];
+    mark_edges(t, table, by_edge, &starting, c, &mut unfit);
+    mark_pins(t, table, by_target, &starting, c, &mut unfit);
+    mark_nodes(t, table, by_target, &starting, runs, stock, c, &mut unfit);
+    lowest_marked(&unfit, table.nodes)
 }
 
 // The lowest node that doesn't agree with what is taken.
@@ -288,48 +377,40 @@ fn unfit_node(
     requires { ⌜ Spans (now t) table × (nodes (now t) ≤ length (now runs)) × (nodes (now t) ≤ length (now stock)) × (n ≤ length (now edge)) × (n ≤ length (now target)) × (n ≤ length (now home)) × (n ≤ 20) ⌝ }
     ensures { λ r. ⌜ found r ≡ homes (now (t .entry)) (now (edge .entry)) (now (target .entry)) (now (home .entry)) (now (runs .entry)) (now (stock .entry)) n c ⌝ }
 {
-    let count = table.nodes;
-    let mut i: usize = 0;
-    while i < count {
-        if !node_fits(t, table, edge, target, home, n, runs, stock, c, i) {
-            return Found::At(i as u8);
-        }
-        i += 1;
-    }
-    Found::Nothing
+    let mut by_edge = [0u32; Table::MOST_EDGES];
+    let mut by_target = [0u32; Table::MOST_NODES];
+    let mut by_home = [0u32; Table::MOST_NODES];
+    choice_masks::fill_masks(&mut by_edge, edge, n);
+    choice_masks::fill_masks(&mut by_target, target, n);
+    choice_masks::fill_masks(&mut by_home, home, n);
+    unfit_by_masks(t, table, &by_edge, &by_target, &by_home, runs, stock, c)
 }
 
 // ---- all three
 
 // The first rule that refuses the choice c, with its place.
-pub fn judge(
-    t: &[u8],
-    table: Table,
-    node: &[u8],
-    parents: &[u64],
-    makers: &[u64],
-    foes: &[u64],
-    rows: usize,
-    ends: &[u8],
-    edge: &[u8],
-    target: &[u8],
-    home: &[u8],
-    n: usize,
-    runs: &[u8],
-    stock: &[u8],
-    c: u32,
-) -> Judged
-    requires { ⌜ Lent (now t) (now node) (now parents) (now makers) (now foes) (now ends) (now edge) (now target) (now home) (now runs) (now stock) table rows n ⌝ }
-    ensures { λ r. ⌜ said r ≡ judgedBy (rowRules (now (t .entry)) (now (node .entry)) (now (parents .entry)) (now (makers .entry)) (now (foes .entry)) (now (ends .entry)) (now (edge .entry)) (now (target .entry)) (now (home .entry)) (now (runs .entry)) (now (stock .entry)) rows n) c ⌝ }
+pub fn judge(t: &[u8], table: Table, offers: Offers, ends: Ends, held: Held, c: u32) -> Judged
+    requires { ⌜ (tableRead (now t) ≡ good table) × Full offers × EndsFull ends × HeldLengths held ⌝ }
+    ensures { λ r. ⌜ said r ≡ judgedBy (rowRules (now (t .entry)) offers ends (held .runs) (held .kept)) c ⌝ }
 {
-    if let Found::At(k) = rivalled_end(foes, makers, ends, n, c) {
+    let foes = ends.foes;
+    let makers = ends.makers;
+    let n = ends.count;
+    let w = ends_masks::all_makers(&makers, n, c);
+    if let Found::At(k) = competing_end(&foes, &makers, n, c, w) {
         return Judged::Refused(10, k);
     }
-    let w = ends_masks::all_makers(makers, ends, n, c);
-    if let Found::At(i) = parted_fork(t, table, node, parents, rows, w) {
+    let node = offers.node;
+    let parents = offers.parents;
+    if let Found::At(i) = parted_fork(t, table, &node, &parents, offers.count, w) {
         return Judged::Refused(11, i);
     }
-    if let Found::At(i) = unfit_node(t, table, edge, target, home, n, runs, stock, c) {
+    let edge = ends.edge;
+    let target = ends.target;
+    let home = ends.home;
+    let runs = held.runs;
+    let stock = held.kept;
+    if let Found::At(i) = unfit_node(t, table, &edge, &target, &home, n, &runs, &stock, c) {
         return Judged::Refused(12, i);
     }
     Judged::Fine

@@ -12,9 +12,10 @@ use Rattle.paper.specs.Choices.{Board, rule1, rule2, rule3, rules, acceptable}
 use Rattle.paper.specs.Operations.{named, wanted}
 use Rattle.offers.specs.Struct.{rowsOf}
 use Rattle.offers.specs.declared.Offers.{Offers}
-use Rattle.ends_masks.specs.Seating.{Seated, Columns, rivalled, apart, passed, forks, served, fits, homes, noRivals, forksWhole, destinationsFit, allowed}
+use Rattle.ends_masks.specs.declared.Ends.{Ends}
+use Rattle.ends_masks.specs.Seating.{Seated, Told, rivalled, apart, passed, forks, served, fits, homes, noRivals, forksWhole, destinationsFit, allowed}
 use Rattle.ends_masks.proofs.Numbers.{all-below-alike}
-use Rattle.ends_masks.proofs.Rules.{Told, rule1-rows, rule2-rows, rule3-rows, served-rows}
+use Rattle.ends_masks.proofs.Rules.{rule1-rows, rule2-rows, rule3-rows, served-rows}
 
 -- ---- a rule that finds no place
 abbrev clear : Option ℕ → Bool
@@ -39,37 +40,37 @@ judged-clear (r ∷ rs) a = by (r .1 a) (judged-clear rs a)
     by none e = e
     by (some k) e = refl
 
-module _ (t : List ℕ) (d : Board) (o : Offers) (links : List ℕ) (ts : List Offer) (ends : List ℕ) (n c : ℕ) (s : Seated t d (rowsOf o links) ts ends n)
-    (edge target home : List ℕ) (k : Columns t (o .last) ends edge target home n) (runs stock : List ℕ) (m : Told t (d .current) runs stock) where
+module _ (t : List ℕ) (d : Board) (o : Offers) (links : List ℕ) (ts : List Offer) (es : Ends) (c : ℕ) (s : Seated t d (rowsOf o links) ts es)
+    (runs stock : List ℕ) (m : Told t (d .current) runs stock) where
   -- each rule finds no place exactly if the rows say that it is kept, and is then passed
-  clear1 : clear (rule1 d c) ≡ noRivals (o .foes) (o .makers) ends n c
+  clear1 : clear (rule1 d c) ≡ noRivals (es .foes) (es .makers) (es .count) c
   unfolding noRivals apart
-  clear1 = ap clear (rule1-rows t d o links ts ends n c s) ∙ find-clear (λ j. has c j && rivalled (o .foes) (o .makers) ends n c j) (below n)
+  clear1 = ap clear (rule1-rows t d o links ts es c s) ∙ find-clear (λ j. has c j && rivalled (es .foes) (es .makers) (es .count) c j) (below (es .count))
 
-  clear2 : clear (rule2 d c) ≡ forksWhole t (o .node) (o .parents) (o .makers) ends (o .count) n c
+  clear2 : clear (rule2 d c) ≡ forksWhole t (o .node) (o .parents) (es .makers) (o .count) (es .count) c
   unfolding forksWhole forks
   clear2 =
-      ap clear (rule2-rows t d o links ts ends n c s)
-      ∙ find-clear (λ i. isFork (kind t i) && not (passed (o .node) (o .parents) (o .makers) ends (o .count) n c i)) (below (nodes t))
+      ap clear (rule2-rows t d o links ts es c s)
+      ∙ find-clear (λ i. isFork (kind t i) && not (passed (o .node) (o .parents) (es .makers) (o .count) (es .count) c i)) (below (nodes t))
 
-  clear3 : clear (rule3 d c) ≡ destinationsFit t edge target home runs stock n c
+  clear3 : clear (rule3 d c) ≡ destinationsFit t (es .edge) (es .target) (es .home) runs stock (es .count) c
   unfolding destinationsFit homes
   clear3 =
-      ap clear (rule3-rows t d o links ts ends n c s edge target home k runs stock m)
-      ∙ find-clear (λ i. not (fits t edge target home runs stock n c i)) (below (nodes t))
-      ∙ all-below-alike (λ i. not (not (fits t edge target home runs stock n c i))) (fits t edge target home runs stock n c) (nodes t) (λ i l. Bool·not-not _)
+      ap clear (rule3-rows t d o links ts es c s runs stock m)
+      ∙ find-clear (λ i. not (fits t (es .edge) (es .target) (es .home) runs stock (es .count) c i)) (below (nodes t))
+      ∙ all-below-alike (λ i. not (not (fits t (es .edge) (es .target) (es .home) runs stock (es .count) c i))) (fits t (es .edge) (es .target) (es .home) runs stock (es .count) c) (nodes t) (λ i l. Bool·not-not _)
 
-  pub passes1 : isGood (judgedBy ((10, rule1 d) ∷ []) c) ≡ noRivals (o .foes) (o .makers) ends n c
+  pub passes1 : isGood (judgedBy ((10, rule1 d) ∷ []) c) ≡ noRivals (es .foes) (es .makers) (es .count) c
   passes1 = judged-clear ((10, rule1 d) ∷ []) c ∙ and-true (clear (rule1 d c)) ∙ clear1
 
-  pub passes2 : isGood (judgedBy ((11, rule2 d) ∷ []) c) ≡ forksWhole t (o .node) (o .parents) (o .makers) ends (o .count) n c
+  pub passes2 : isGood (judgedBy ((11, rule2 d) ∷ []) c) ≡ forksWhole t (o .node) (o .parents) (es .makers) (o .count) (es .count) c
   passes2 = judged-clear ((11, rule2 d) ∷ []) c ∙ and-true (clear (rule2 d c)) ∙ clear2
 
-  pub acceptable-rows : acceptable d c ≡ allowed t (o .node) (o .parents) (o .makers) (o .foes) ends edge target home runs stock (o .count) n c
+  pub acceptable-rows : acceptable d c ≡ allowed t o es runs stock c
   unfolding acceptable allowed
   acceptable-rows =
       judged-clear (rules d) c ∙ ap₂ (λ (x y : Bool). x && y) clear1 (ap₂ (λ (x y : Bool). x && y) clear2 (ap (λ (x : Bool). x && true) clear3))
 
-  pub wanted-rows : (i : ℕ) → wanted d i c ≡ allowed t (o .node) (o .parents) (o .makers) (o .foes) ends edge target home runs stock (o .count) n c && (not (named i) || served target home n c i)
+  pub wanted-rows : (i : ℕ) → wanted d i c ≡ allowed t o es runs stock c && (not (named i) || served (es .target) (es .home) (es .count) c i)
   unfolding wanted
-  wanted-rows i = ap₂ (λ (x y : Bool). x && (not (named i) || y)) acceptable-rows (served-rows t d o links ts ends n c s edge target home k i)
+  wanted-rows i = ap₂ (λ (x y : Bool). x && (not (named i) || y)) acceptable-rows (served-rows t d o links ts es c s i)

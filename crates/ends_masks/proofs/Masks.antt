@@ -29,7 +29,7 @@ pub marks-all : {p : ℕ → Bool} {k n w : ℕ} → k ≡ n → Marks p k w →
 marks-all e m = rw (sym e) m
 
 -- ---- columns
-column-more : (f : ℕ → ℕ) (l : List ℕ) (k v : ℕ) → k < length l → v ≡ f k → ((j : ℕ) → j < k → at l j ≡ f j)
+pub column-more : (f : ℕ → ℕ) (l : List ℕ) (k v : ℕ) → k < length l → v ≡ f k → ((j : ℕ) → j < k → at l j ≡ f j)
     → (j : ℕ) → j < k + 1 → at (set l k v) j ≡ f j
 column-more f l k v fits e h j less =
     elim (decLt j k) [
@@ -65,18 +65,18 @@ module _ {t last ends : List ℕ} where
       }
 
 -- ---- the makers of taken ends
-pub makes-none : (makers ends : List ℕ) (c y : ℕ) → has 0 y ≡ makes makers ends 0 c y
+pub makes-none : (makers : List ℕ) (c y : ℕ) → has 0 y ≡ makes makers 0 c y
 unfolding makes
-makes-none makers ends c y = has-zero y
+makes-none makers c y = has-zero y
 
-pub makes-more : (makers ends : List ℕ) (c k w v y : ℕ) → has w y ≡ makes makers ends k c y → has v y ≡ has c k && has (at makers (at ends k)) y
-    → has (bitOr w v) y ≡ makes makers ends (k + 1) c y
+pub makes-more : (makers : List ℕ) (c k w v y : ℕ) → has w y ≡ makes makers k c y → has v y ≡ has c k && has (at makers k) y
+    → has (bitOr w v) y ≡ makes makers (k + 1) c y
 unfolding makes
-makes-more makers ends c k w v y hw hv =
+makes-more makers c k w v y hw hv =
     has-or w v y
     ∙ ap₂ (λ (a b : Bool). a || b) hw hv
-    ∙ sym (any-below (λ j. has c j && has (at makers (at ends j)) y) k)
-    ∙ ap (λ (m : ℕ). any (λ j. has c j && has (at makers (at ends j)) y) (below m)) (sym (add-one k))
+    ∙ sym (any-below (λ j. has c j && has (at makers j) y) k)
+    ∙ ap (λ (m : ℕ). any (λ j. has c j && has (at makers j) y) (below m)) (sym (add-one k))
 
 pub makes-not : (c k : ℕ) (b : Bool) (y : ℕ) → (c / 2 ^ k % 2 ≡ 1 → ⊥) → has 0 y ≡ has c k && b
 makes-not c k b y ne = has-zero y ∙ sym (ap (λ (a : Bool). a && b) (ne-eqb (c / 2 ^ k % 2) 1 ne))

@@ -24,9 +24,10 @@ use Rattle.offers.specs.Sets.{nth}
 use Rattle.offers.specs.Rows.{Row}
 use Rattle.offers.specs.Struct.{rowsOf}
 use Rattle.offers.specs.declared.Offers.{Offers}
+use Rattle.ends_masks.specs.declared.Ends.{Ends}
 use Rattle.offers.proofs.Sets.{member, number, meet}
 use Rattle.offers.proofs.Rows.{rows-compete}
-use Rattle.ends_masks.specs.Seating.{Seated, Columns, rival, rivalled, apart, siblings, makes, kept, passed, forks, seats, served, actionFits, fits, homes}
+use Rattle.ends_masks.specs.Seating.{Seated, Told, rival, rivalled, apart, siblings, makes, kept, passed, forks, seats, served, actionFits, fits, homes}
 use Rattle.ends_masks.proofs.Numbers.{any-below-alike, all-alike, lowest-alike, find-keep, kept-number}
 use Rattle.ends_masks.proofs.Taking.{origins-make, any-ends, count-ends, makes-row, maker-row}
 
@@ -40,12 +41,6 @@ if-alike : (a b c : Bool) → (a ≡ true → b ≡ c) → a ⇒ b ≡ a ⇒ c
 if-alike true b c f = f refl
 if-alike false b c f = refl
 
--- t is a table, and runs and stock are what the marking m says of its actions and of its object nodes
-pub record Told (t : List ℕ) (m : Marking) (runs stock : List ℕ) : Type 0 where
-  pub table-fine : tableFine t limits ≡ good tt
-  pub running : (i : ℕ) → i < nodes t → isAction (kind t i) ≡ true → at runs i ≡ oneIf (m .runs i)
-  pub stocks : (i : ℕ) → i < nodes t → isObjectNode (kind t i) ≡ true → at stock i ≡ length (m .stock i)
-
 idle : (b : Bool) → not b ≡ eqb (oneIf b) 0
 idle true = refl
 idle false = refl
@@ -53,23 +48,23 @@ idle false = refl
 pub held-kind : (k : ℕ) → isBuffer k || isOutgoing k ≡ true → isObjectNode k ≡ true
 held-kind k h = ⊎-elim (λ e. rw (eqb-true k 5 e) refl) (λ e. rw (eqb-true k 7 e) refl) (or-true (isBuffer k) (isOutgoing k) h)
 
-module _ (t : List ℕ) (d : Board) (o : Offers) (links : List ℕ) (ts : List Offer) (ends : List ℕ) (n c : ℕ) (s : Seated t d (rowsOf o links) ts ends n) where
+module _ (t : List ℕ) (d : Board) (o : Offers) (links : List ℕ) (ts : List Offer) (es : Ends) (c : ℕ) (s : Seated t d (rowsOf o links) ts es) where
   -- ---- rule 1
-  ends-compete : (k j : ℕ) → k < n → j < n → not (eqb j k) && compete (d .table) (end d k) (end d j) ≡ rival (o .foes) (o .makers) ends k j
+  ends-compete : (k j : ℕ) → k < es .count → j < es .count → not (eqb j k) && compete (d .table) (end d k) (end d j) ≡ rival (es .foes) (es .makers) k j
   ends-compete k j lk lj =
       ap (λ (b : Bool). not (eqb j k) && b)
-      (rw (s .table-is, sym (s .ends-are k lk), sym (s .ends-are j lj)) (rows-compete t (rowsOf o links) ts (s .holds-ts) (at ends k) (at ends j) (s .inside k lk) (s .inside j lj)))
+      (rw (s .table-is, sym (s .ends-are k lk), sym (s .ends-are j lj), s .foes-are k lk, s .makers-are k lk, s .foes-are j lj, s .makers-are j lj) (rows-compete t (rowsOf o links) ts (s .holds-ts) (at (es .row) k) (at (es .row) j) (s .inside k lk) (s .inside j lj)))
 
-  pub rule1-rows : rule1 d c ≡ apart (o .foes) (o .makers) ends n c
+  pub rule1-rows : rule1 d c ≡ apart (es .foes) (es .makers) (es .count) c
   unfolding rule1 taken apart rivalled
   rule1-rows =
       find-keep (has c) (λ k. any (λ j. not (eqb j k) && compete (d .table) (end d k) (end d j)) (keep (has c) (below (howMany d)))) (below (howMany d))
       ∙ rw (sym (s .number))
-      (lowest-alike (λ k. has c k && any (λ j. not (eqb j k) && compete (d .table) (end d k) (end d j)) (keep (has c) (below n)))
-      (λ k. has c k && any (λ j. has c j && rival (o .foes) (o .makers) ends k j) (below n)) n
+      (lowest-alike (λ k. has c k && any (λ j. not (eqb j k) && compete (d .table) (end d k) (end d j)) (keep (has c) (below (es .count))))
+      (λ k. has c k && any (λ j. has c j && rival (es .foes) (es .makers) k j) (below (es .count))) (es .count)
       (λ k lk. ap (λ (b : Bool). has c k && b)
-      (any-keep (has c) (λ j. not (eqb j k) && compete (d .table) (end d k) (end d j)) (below n)
-      ∙ any-below-alike (λ j. has c j && (not (eqb j k) && compete (d .table) (end d k) (end d j))) (λ j. has c j && rival (o .foes) (o .makers) ends k j) n
+      (any-keep (has c) (λ j. not (eqb j k) && compete (d .table) (end d k) (end d j)) (below (es .count))
+      ∙ any-below-alike (λ j. has c j && (not (eqb j k) && compete (d .table) (end d k) (end d j))) (λ j. has c j && rival (es .foes) (es .makers) k j) (es .count)
       (λ j lj. ap (λ (b : Bool). has c j && b) (ends-compete k j lk lj)))))
 
   -- ---- rule 2
@@ -94,31 +89,31 @@ module _ (t : List ℕ) (d : Board) (o : Offers) (links : List ℕ) (ts : List O
   unfolding takenMakers
   origin-taken m k = let e = in-gather makers (takenEnds d c) m in gather-in makers (e .1) (origins-make (e .0) (e .2) k)
 
-  whole-kept : (i : ℕ) → passedWhole d c i ≡ true → (z : ℕ) → z < length ts → eqb (at (o .node) z) i ≡ true → kept (o .node) (o .parents) (o .makers) ends (o .count) n c z ≡ true
+  whole-kept : (i : ℕ) → passedWhole d c i ≡ true → (z : ℕ) → z < length ts → eqb (at (o .node) z) i ≡ true → kept (o .node) (o .parents) (es .makers) (o .count) (es .count) c z ≡ true
   unfolding passedWhole kept
   whole-kept i h z lz ez =
       if-so _ _ (λ hy.
-      let y = any-in (λ y. siblings (o .node) (o .parents) y z && makes (o .makers) ends n c y) (below (o .count)) hy in
+      let y = any-in (λ y. siblings (o .node) (o .parents) y z && makes (es .makers) (es .count) c y) (below (o .count)) hy in
       let ly = inside-ts (y .1) in
       let q = and-true (siblings (o .node) (o .parents) (y .0) z) _ (y .2) in
       let w = and-true (eqb (at (o .node) (y .0)) (at (o .node) z)) _ (q .0) in
       let x = any-in (λ x. elem x (origins (nth ts z))) (origins (nth ts (y .0))) (meet (row-of (y .0) ly .parents-are) (row-of z lz .parents-are) ∙ w .1) in
-      let my = elem-in (takenMakers d c) (makes-row t d o links ts ends n c s (y .0) ly ∙ q .1) in
+      let my = elem-in (takenMakers d c) (makes-row t d o links ts es c s (y .0) ly ∙ q .1) in
       let r = all-in (λ x. any (extending i x) (takenMakers d c) ⇒ all (λ y. extending i x y ⇒ elem y (takenMakers d c)) (d .allOffers)) h (origin-taken my (x .1)) in
       let ny : eqb (madeAt (d .table) (nth ts (y .0))) i ≡ true = rw (made-row (y .0) ly, eqb-true (at (o .node) (y .0)) (at (o .node) z) (w .0)) ez in
       let ey : extending i (x .0) (nth ts (y .0)) ≡ true = and-both _ _ ny (in-elem (x .1)) in
       let u = if-true _ _ r (in-any (extending i (x .0)) my ey) in
       let v = all-in (λ y. extending i (x .0) y ⇒ elem y (takenMakers d c)) u (elem-in (d .allOffers) (sym (s .offers-are (nth ts z)) ∙ in-elem (member ts z lz))) in
       let mz : eqb (madeAt (d .table) (nth ts z)) i ≡ true = rw (made-row z lz) ez in
-      sym (makes-row t d o links ts ends n c s z lz) ∙ if-true _ _ v (and-both _ _ mz (x .2)))
+      sym (makes-row t d o links ts es c s z lz) ∙ if-true _ _ v (and-both _ _ mz (x .2)))
 
-  kept-whole : (i : ℕ) → ((z : ℕ) → z < length ts → eqb (at (o .node) z) i ≡ true → kept (o .node) (o .parents) (o .makers) ends (o .count) n c z ≡ true) → passedWhole d c i ≡ true
+  kept-whole : (i : ℕ) → ((z : ℕ) → z < length ts → eqb (at (o .node) z) i ≡ true → kept (o .node) (o .parents) (es .makers) (o .count) (es .count) c z ≡ true) → passedWhole d c i ≡ true
   unfolding passedWhole kept
   kept-whole i h =
       in-all (λ x. any (extending i x) (takenMakers d c) ⇒ all (λ y. extending i x y ⇒ elem y (takenMakers d c)) (d .allOffers)) (takenMakers d c) (λ x mx.
       if-so _ _ (λ hy.
       let y = any-in (extending i x) (takenMakers d c) hy in
-      let yr = maker-row t d o links ts ends n c s (y .1) in
+      let yr = maker-row t d o links ts es c s (y .1) in
       let qy = and-true (eqb (madeAt (d .table) (y .0)) i) _ (y .2) in
       in-all (λ y. extending i x y ⇒ elem y (takenMakers d c)) (d .allOffers) (λ z mz.
       if-so _ _ (λ hz.
@@ -130,79 +125,78 @@ module _ (t : List ℕ) (d : Board) (o : Offers) (links : List ℕ) (ts : List O
       let oz : elem x (origins (nth ts (zr .0))) ≡ true = rw (zr .2) (qz .1) in
       let sh = in-any (λ x. elem x (origins (nth ts (zr .0)))) (elem-in (origins (nth ts (yr .0))) oy) oz in
       let sb : siblings (o .node) (o .parents) (yr .0) (zr .0) ≡ true = and-both _ _ (eq-eqb _ _ (eqb-true _ i ey ∙ sym (eqb-true _ i ez))) (sym (meet (row-of (yr .0) (yr .1) .parents-are) (row-of (zr .0) (zr .1) .parents-are)) ∙ sh) in
-      let mk : makes (o .makers) ends n c (yr .0) ≡ true = sym (makes-row t d o links ts ends n c s (yr .0) (yr .1)) ∙ rw (yr .2) (in-elem (y .1)) in
-      let r = if-true _ _ (h (zr .0) (zr .1) ez) (in-any (λ y. siblings (o .node) (o .parents) y (zr .0) && makes (o .makers) ends n c y) (row-inside (yr .1)) (and-both _ _ sb mk)) in
-      ap (λ x. elem x (takenMakers d c)) (sym (zr .2)) ∙ makes-row t d o links ts ends n c s (zr .0) (zr .1) ∙ r))))
+      let mk : makes (es .makers) (es .count) c (yr .0) ≡ true = sym (makes-row t d o links ts es c s (yr .0) (yr .1)) ∙ rw (yr .2) (in-elem (y .1)) in
+      let r = if-true _ _ (h (zr .0) (zr .1) ez) (in-any (λ y. siblings (o .node) (o .parents) y (zr .0) && makes (es .makers) (es .count) c y) (row-inside (yr .1)) (and-both _ _ sb mk)) in
+      ap (λ x. elem x (takenMakers d c)) (sym (zr .2)) ∙ makes-row t d o links ts es c s (zr .0) (zr .1) ∙ r))))
 
-  whole-rows : (i : ℕ) → passedWhole d c i ≡ passed (o .node) (o .parents) (o .makers) ends (o .count) n c i
+  whole-rows : (i : ℕ) → passedWhole d c i ≡ passed (o .node) (o .parents) (es .makers) (o .count) (es .count) c i
   unfolding passed
   whole-rows i =
       iff _ _
-      (λ h. in-all (λ z. eqb (at (o .node) z) i ⇒ kept (o .node) (o .parents) (o .makers) ends (o .count) n c z) (below (o .count)) (λ z m. if-so _ _ (whole-kept i h z (inside-ts m))))
-      (λ h. kept-whole i (λ z l e. if-true _ _ (all-in (λ z. eqb (at (o .node) z) i ⇒ kept (o .node) (o .parents) (o .makers) ends (o .count) n c z) h (row-inside l)) e))
+      (λ h. in-all (λ z. eqb (at (o .node) z) i ⇒ kept (o .node) (o .parents) (es .makers) (o .count) (es .count) c z) (below (o .count)) (λ z m. if-so _ _ (whole-kept i h z (inside-ts m))))
+      (λ h. kept-whole i (λ z l e. if-true _ _ (all-in (λ z. eqb (at (o .node) z) i ⇒ kept (o .node) (o .parents) (es .makers) (o .count) (es .count) c z) h (row-inside l)) e))
 
-  pub rule2-rows : rule2 d c ≡ forks (o .node) (o .parents) (o .makers) ends (o .count) n c t
+  pub rule2-rows : rule2 d c ≡ forks (o .node) (o .parents) (es .makers) (o .count) (es .count) c t
   unfolding rule2 forks
   rule2-rows =
-      lowest-alike (λ i. isFork (kind (d .table) i) && not (passedWhole d c i)) (λ i. isFork (kind (d .table) i) && not (passed (o .node) (o .parents) (o .makers) ends (o .count) n c i)) (nodes (d .table))
+      lowest-alike (λ i. isFork (kind (d .table) i) && not (passedWhole d c i)) (λ i. isFork (kind (d .table) i) && not (passed (o .node) (o .parents) (es .makers) (o .count) (es .count) c i)) (nodes (d .table))
       (λ i l. ap (λ (b : Bool). isFork (kind (d .table) i) && not b) (whole-rows i))
-      ∙ ap (λ (u : List ℕ). lowest (λ i. isFork (kind u i) && not (passed (o .node) (o .parents) (o .makers) ends (o .count) n c i)) (nodes u)) (s .table-is)
+      ∙ ap (λ (u : List ℕ). lowest (λ i. isFork (kind u i) && not (passed (o .node) (o .parents) (es .makers) (o .count) (es .count) c i)) (nodes u)) (s .table-is)
 
   -- ---- rule 3
-  module _ (edge target home : List ℕ) (k : Columns t (o .last) ends edge target home n) where
-    last-row : (j : ℕ) → j < n → lastEdge (nth ts (at ends j)) ≡ at edge j
-    last-row j l = sym (row-of (at ends j) (s .inside j l) .last-is) ∙ sym (k .edges-are j l)
+  last-row : (j : ℕ) → j < es .count → lastEdge (nth ts (at (es .row) j)) ≡ at (es .edge) j
+  last-row j l = sym (row-of (at (es .row) j) (s .inside j l) .last-is) ∙ sym (s .edges-are j l)
 
-    pub target-row : (j : ℕ) → j < n → targetOf (d .table) (nth ts (at ends j)) ≡ at target j
-    target-row j l = rw (s .table-is, last-row j l) (sym (k .targets-are j l))
+  pub target-row : (j : ℕ) → j < es .count → targetOf (d .table) (nth ts (at (es .row) j)) ≡ at (es .target) j
+  target-row j l = rw (s .table-is, last-row j l) (sym (s .targets-are j l))
 
-    belongs-row : (i j : ℕ) → j < n → belongs (d .table) i (nth ts (at ends j)) ≡ eqb (at target j) i || eqb (at home j) i
-    unfolding belongs
-    belongs-row i j l = rw (target-row j l, s .table-is, k .homes-are j l) (by (isPin (kind t (at target j))))
-      where
-        by : (b : Bool) → eqb (at target j) i || b && eqb (owner t (at target j)) i ≡ eqb (at target j) i || eqb (cond b (owner t (at target j)) (at target j)) i
-        by true = refl
-        by false = or-false (eqb (at target j) i) ∙ sym (or-self (eqb (at target j) i))
+  belongs-row : (i j : ℕ) → j < es .count → belongs (d .table) i (nth ts (at (es .row) j)) ≡ eqb (at (es .target) j) i || eqb (at (es .home) j) i
+  unfolding belongs
+  belongs-row i j l = rw (target-row j l, s .table-is, s .homes-are j l) (by (isPin (kind t (at (es .target) j))))
+    where
+      by : (b : Bool) → eqb (at (es .target) j) i || b && eqb (owner t (at (es .target) j)) i ≡ eqb (at (es .target) j) i || eqb (cond b (owner t (at (es .target) j)) (at (es .target) j)) i
+      by true = refl
+      by false = or-false (eqb (at (es .target) j) i) ∙ sym (or-self (eqb (at (es .target) j) i))
 
-    -- the node i is served
-    pub served-rows : (i : ℕ) → any (belongs (d .table) i) (takenEnds d c) ≡ served target home n c i
-    unfolding served
-    served-rows i = any-ends t d o links ts ends n c s (belongs (d .table) i) (λ j. eqb (at target j) i || eqb (at home j) i) (belongs-row i)
+  -- the node i is served
+  pub served-rows : (i : ℕ) → any (belongs (d .table) i) (takenEnds d c) ≡ served (es .target) (es .home) (es .count) c i
+  unfolding served
+  served-rows i = any-ends t d o links ts es c s (belongs (d .table) i) (λ j. eqb (at (es .target) j) i || eqb (at (es .home) j) i) (belongs-row i)
 
-    -- the ends taken at node i
-    pub arrivals-rows : (i : ℕ) → length (arrivals d c i) ≡ seats target n c i
-    unfolding arrivals seats
-    arrivals-rows i =
-        kept-number (λ x. eqb (targetOf (d .table) x) i) (takenEnds d c)
-        ∙ count-ends t d o links ts ends n c s (λ x. eqb (targetOf (d .table) x) i) (λ j. eqb (at target j) i) (λ j l. ap (λ (x : ℕ). eqb x i) (target-row j l))
+  -- the ends taken at node i
+  pub arrivals-rows : (i : ℕ) → length (arrivals d c i) ≡ seats (es .target) (es .count) c i
+  unfolding arrivals seats
+  arrivals-rows i =
+      kept-number (λ x. eqb (targetOf (d .table) x) i) (takenEnds d c)
+      ∙ count-ends t d o links ts es c s (λ x. eqb (targetOf (d .table) x) i) (λ j. eqb (at (es .target) j) i) (λ j l. ap (λ (x : ℕ). eqb x i) (target-row j l))
 
-    edge-rows : (e : ℕ) → count (λ x. eqb (lastEdge x) e) (takenEnds d c) ≡ seats edge n c e
-    unfolding seats
-    edge-rows e = count-ends t d o links ts ends n c s (λ x. eqb (lastEdge x) e) (λ j. eqb (at edge j) e) (λ j l. ap (λ (x : ℕ). eqb x e) (last-row j l))
+  edge-rows : (e : ℕ) → count (λ x. eqb (lastEdge x) e) (takenEnds d c) ≡ seats (es .edge) (es .count) c e
+  unfolding seats
+  edge-rows e = count-ends t d o links ts es c s (λ x. eqb (lastEdge x) e) (λ j. eqb (at (es .edge) j) e) (λ j l. ap (λ (x : ℕ). eqb x e) (last-row j l))
 
-    module _ (runs stock : List ℕ) (m : Told t (d .current) runs stock) where
-      action-rows : (i : ℕ) → i < nodes t → isAction (kind t i) ≡ true → actionAgrees d c i ≡ actionFits (d .table) edge target home runs stock n c i
-      unfolding actionFits
-      action-rows i l a =
-          agrees-every-edge d c i (rw (s .table-is) (m .table-fine)) (rw (s .table-is) a)
-          ∙ ap₂ (λ (x y : Bool). x && y)
-          (ap₂ (λ (x y : Bool). x && y) (idle (d .current .runs i) ∙ ap (λ (x : ℕ). eqb x 0) (sym (m .running i l a)))
-          (all-alike (λ e. eqb (count (λ x. eqb (lastEdge x) e) (takenEnds d c)) 1) (λ e. eqb (seats edge n c e) 1) (into (d .table) i) (λ e h. ap (λ (x : ℕ). eqb x 1) (edge-rows e))))
-          (all-alike (λ p. within (lower (d .table) p) (upper (d .table) p) (length (arrivals d c p))) (λ p. within (lower (d .table) p) (upper (d .table) p) (seats target n c p)) (inputs (d .table) i)
-          (λ p h. ap (within (lower (d .table) p) (upper (d .table) p)) (arrivals-rows p)))
+  module _ (runs stock : List ℕ) (m : Told t (d .current) runs stock) where
+    action-rows : (i : ℕ) → i < nodes t → isAction (kind t i) ≡ true → actionAgrees d c i ≡ actionFits (d .table) (es .edge) (es .target) (es .home) runs stock (es .count) c i
+    unfolding actionFits
+    action-rows i l a =
+        agrees-every-edge d c i (rw (s .table-is) (m .table-fine)) (rw (s .table-is) a)
+        ∙ ap₂ (λ (x y : Bool). x && y)
+        (ap₂ (λ (x y : Bool). x && y) (idle (d .current .runs i) ∙ ap (λ (x : ℕ). eqb x 0) (sym (m .running i l a)))
+        (all-alike (λ e. eqb (count (λ x. eqb (lastEdge x) e) (takenEnds d c)) 1) (λ e. eqb (seats (es .edge) (es .count) c e) 1) (into (d .table) i) (λ e h. ap (λ (x : ℕ). eqb x 1) (edge-rows e))))
+        (all-alike (λ p. within (lower (d .table) p) (upper (d .table) p) (length (arrivals d c p))) (λ p. within (lower (d .table) p) (upper (d .table) p) (seats (es .target) (es .count) c p)) (inputs (d .table) i)
+        (λ p h. ap (within (lower (d .table) p) (upper (d .table) p)) (arrivals-rows p)))
 
-      pub agrees-rows : (i : ℕ) → i < nodes t → agrees d c i ≡ fits (d .table) edge target home runs stock n c i
-      unfolding agrees fits
-      agrees-rows i l =
-          ap₂ (λ (x y : Bool). x && y)
-          (ap (λ (x : Bool). isAction (kind (d .table) i) && x ⇒ actionAgrees d c i) (served-rows i)
-          ∙ if-alike (isAction (kind (d .table) i) && served target home n c i) _ _ (λ h. action-rows i l (rw (s .table-is) at (and-true (isAction (kind (d .table) i)) _ h .0))))
-          (if-alike (isBuffer (kind (d .table) i) || isOutgoing (kind (d .table) i)) _ _
-          (λ h. ap₂ (λ (x y : ℕ). leb (x + y) (upper (d .table) i)) (sym (m .stocks i l (rw (s .table-is) at (held-kind (kind (d .table) i) h)))) (arrivals-rows i)))
+    pub agrees-rows : (i : ℕ) → i < nodes t → agrees d c i ≡ fits (d .table) (es .edge) (es .target) (es .home) runs stock (es .count) c i
+    unfolding agrees fits
+    agrees-rows i l =
+        ap₂ (λ (x y : Bool). x && y)
+        (ap (λ (x : Bool). isAction (kind (d .table) i) && x ⇒ actionAgrees d c i) (served-rows i)
+        ∙ if-alike (isAction (kind (d .table) i) && served (es .target) (es .home) (es .count) c i) _ _ (λ h. action-rows i l (rw (s .table-is) at (and-true (isAction (kind (d .table) i)) _ h .0))))
+        (if-alike (isBuffer (kind (d .table) i) || isOutgoing (kind (d .table) i)) _ _
+        (λ h. ap₂ (λ (x y : ℕ). leb (x + y) (upper (d .table) i)) (sym (m .stocks i l (rw (s .table-is) at (held-kind (kind (d .table) i) h)))) (arrivals-rows i)))
 
-      pub rule3-rows : rule3 d c ≡ homes t edge target home runs stock n c
-      unfolding rule3 homes
-      rule3-rows =
-          lowest-alike (λ i. not (agrees d c i)) (λ i. not (fits (d .table) edge target home runs stock n c i)) (nodes (d .table))
-          (λ i l. ap not (agrees-rows i (subst (λ (u : List ℕ). i < nodes u) (s .table-is) l)))
-          ∙ ap (λ (u : List ℕ). lowest (λ i. not (fits u edge target home runs stock n c i)) (nodes u)) (s .table-is)
+    pub rule3-rows : rule3 d c ≡ homes t (es .edge) (es .target) (es .home) runs stock (es .count) c
+    unfolding rule3 homes
+    rule3-rows =
+        lowest-alike (λ i. not (agrees d c i)) (λ i. not (fits (d .table) (es .edge) (es .target) (es .home) runs stock (es .count) c i)) (nodes (d .table))
+        (λ i l. ap not (agrees-rows i (subst (λ (u : List ℕ). i < nodes u) (s .table-is) l)))
+        ∙ ap (λ (u : List ℕ). lowest (λ i. not (fits u (es .edge) (es .target) (es .home) runs stock (es .count) c i)) (nodes u)) (s .table-is)

@@ -21,6 +21,7 @@ use Rattle.offers.specs.Sets.{nth, Means}
 use Rattle.offers.specs.Rows.{isOffer}
 use Rattle.offers.specs.Struct.{rowsOf}
 use Rattle.offers.specs.declared.Offers.{Offers}
+use Rattle.ends_masks.specs.declared.Ends.{Ends}
 use Rattle.offers.proofs.Sets.{number}
 use Rattle.ends_masks.specs.Seating.{Seated, makes}
 use Rattle.ends_masks.proofs.Numbers.{any-below-alike, any-each, count-each, any-gather}
@@ -72,27 +73,27 @@ first-word ts (over o e) w i m =
 first-word ts (with o p) w i m = never false i refl
 
 -- ---- a seated board
-module _ (t : List ℕ) (d : Board) (o : Offers) (links : List ℕ) (ts : List Offer) (ends : List ℕ) (n c : ℕ) (s : Seated t d (rowsOf o links) ts ends n) where
+module _ (t : List ℕ) (d : Board) (o : Offers) (links : List ℕ) (ts : List Offer) (es : Ends) (c : ℕ) (s : Seated t d (rowsOf o links) ts es) where
   -- a test of taken ends, as a test of their numbers
-  pub any-ends : (p : Offer → Bool) (q : ℕ → Bool) → ((k : ℕ) → k < n → p (nth ts (at ends k)) ≡ q k) → any p (takenEnds d c) ≡ any (λ k. has c k && q k) (below n)
+  pub any-ends : (p : Offer → Bool) (q : ℕ → Bool) → ((k : ℕ) → k < es .count → p (nth ts (at (es .row) k)) ≡ q k) → any p (takenEnds d c) ≡ any (λ k. has c k && q k) (below (es .count))
   any-ends p q h =
       any-taken d c p ∙ rw (sym (s .number))
-      (any-below-alike (λ k. has c k && p (end d k)) (λ k. has c k && q k) n
+      (any-below-alike (λ k. has c k && p (end d k)) (λ k. has c k && q k) (es .count)
       (λ k l. ap (λ (b : Bool). has c k && b) (ap p (sym (s .ends-are k l)) ∙ h k l)))
 
-  pub count-ends : (p : Offer → Bool) (q : ℕ → Bool) → ((k : ℕ) → k < n → p (nth ts (at ends k)) ≡ q k) → count p (takenEnds d c) ≡ count (λ k. has c k && q k) (below n)
+  pub count-ends : (p : Offer → Bool) (q : ℕ → Bool) → ((k : ℕ) → k < es .count → p (nth ts (at (es .row) k)) ≡ q k) → count p (takenEnds d c) ≡ count (λ k. has c k && q k) (below (es .count))
   count-ends p q h =
       count-taken d c p ∙ rw (sym (s .number))
-      (count-below-same (λ k. has c k && p (end d k)) (λ k. has c k && q k) n
+      (count-below-same (λ k. has c k && p (end d k)) (λ k. has c k && q k) (es .count)
       (λ k l. ap (λ (b : Bool). has c k && b) (ap p (sym (s .ends-are k l)) ∙ h k l)))
 
   -- row y is a maker of a taken end
-  pub makes-row : (y : ℕ) → y < length ts → elem (nth ts y) (takenMakers d c) ≡ makes (o .makers) ends n c y
+  pub makes-row : (y : ℕ) → y < length ts → elem (nth ts y) (takenMakers d c) ≡ makes (es .makers) (es .count) c y
   unfolding takenMakers elem makes
   makes-row y l =
       any-gather (same (nth ts y)) makers (takenEnds d c)
-      ∙ any-ends (λ x. elem (nth ts y) (makers x)) (λ k. has (at (o .makers) (at ends k)) y)
-      (λ k h. sym (s .holds-ts .rows (at ends k) (s .inside k h) .makers-are .says y l))
+      ∙ any-ends (λ x. elem (nth ts y) (makers x)) (λ k. has (at (es .makers) k) y)
+      (λ k h. sym (ap (λ (w : ℕ). has w y) (s .makers-are k h) ∙ s .holds-ts .rows (at (es .row) k) (s .inside k h) .makers-are .says y l))
 
   -- every maker of a taken end is a row
   pub maker-row : {x : Offer} → In x (takenMakers d c) → (y : ℕ) × (y < length ts) × (nth ts y ≡ x)
@@ -100,24 +101,24 @@ module _ (t : List ℕ) (d : Board) (o : Offers) (links : List ℕ) (ts : List O
   maker-row {x} m =
       let e = in-gather makers (takenEnds d c) m in
       let k = in-each (end d) (keep (has c) (below (howMany d))) (e .1) in
-      let l : k .0 < n = rw (s .number) (in-below (howMany d) (in-keep (has c) (below (howMany d)) (k .1) .0)) in
-      let q : In x (makers (nth ts (at ends (k .0)))) = rw (s .ends-are (k .0) l, sym (k .2)) (e .2) in
-      number (s .holds-ts .rows (at ends (k .0)) (s .inside (k .0) l) .makers-are .inside x q)
+      let l : k .0 < es .count = rw (s .number) (in-below (howMany d) (in-keep (has c) (below (howMany d)) (k .1) .0)) in
+      let q : In x (makers (nth ts (at (es .row) (k .0)))) = rw (s .ends-are (k .0) l, sym (k .2)) (e .2) in
+      number (s .holds-ts .rows (at (es .row) (k .0)) (s .inside (k .0) l) .makers-are .inside x q)
 
   -- a test of the makers of taken ends, as a test of rows
-  pub any-makers : (p : Offer → Bool) → any p (takenMakers d c) ≡ any (λ y. makes (o .makers) ends n c y && p (nth ts y)) (below (o .count))
+  pub any-makers : (p : Offer → Bool) → any p (takenMakers d c) ≡ any (λ y. makes (es .makers) (es .count) c y && p (nth ts y)) (below (o .count))
   any-makers p =
       let e = s .holds-ts .count-is in
       iff _ _
       (λ h.
       let r = any-in p (takenMakers d c) h in
       let y = maker-row (r .1) in
-      in-any (λ y. makes (o .makers) ends n c y && p (nth ts y)) (below-in (o .count) (omega (arith, e, y .1)))
+      in-any (λ y. makes (es .makers) (es .count) c y && p (nth ts y)) (below-in (o .count) (omega (arith, e, y .1)))
       (and-both _ _ (sym (makes-row (y .0) (y .1)) ∙ rw (y .2) (in-elem (r .1))) (rw (y .2) (r .2))))
       (λ h.
-      let r = any-in (λ y. makes (o .makers) ends n c y && p (nth ts y)) (below (o .count)) h in
+      let r = any-in (λ y. makes (es .makers) (es .count) c y && p (nth ts y)) (below (o .count)) h in
       let l : r .0 < length ts = omega (arith, e, in-below (o .count) (r .1)) in
-      let q = and-true (makes (o .makers) ends n c (r .0)) _ (r .2) in
+      let q = and-true (makes (es .makers) (es .count) c (r .0)) _ (r .2) in
       in-any p (elem-in (takenMakers d c) (makes-row (r .0) l ∙ q .0)) (q .1))
 
   -- a row is a first offer exactly if its word of parents is 0
@@ -125,12 +126,12 @@ module _ (t : List ℕ) (d : Board) (o : Offers) (links : List ℕ) (ts : List O
   first-row y l = let r = s .holds-ts .rows y l in first-word ts (nth ts y) (at (o .parents) y) (r .offer) (r .parents-are)
 
   -- the edges whose first offer is spent, by rows
-  pub spent-rows : (e : ℕ) → spent d c e ≡ any (λ y. makes (o .makers) ends n c y && eqb (at (o .parents) y) 0 && eqb (at (o .last) y) e) (below (o .count))
+  pub spent-rows : (e : ℕ) → spent d c e ≡ any (λ y. makes (es .makers) (es .count) c y && eqb (at (o .parents) y) 0 && eqb (at (o .last) y) e) (below (o .count))
   unfolding spent
   spent-rows e =
       any-makers (λ x. isFirst x && eqb (lastEdge x) e)
-      ∙ any-below-alike (λ y. makes (o .makers) ends n c y && (isFirst (nth ts y) && eqb (lastEdge (nth ts y)) e))
-      (λ y. makes (o .makers) ends n c y && eqb (at (o .parents) y) 0 && eqb (at (o .last) y) e) (o .count)
+      ∙ any-below-alike (λ y. makes (es .makers) (es .count) c y && (isFirst (nth ts y) && eqb (lastEdge (nth ts y)) e))
+      (λ y. makes (es .makers) (es .count) c y && eqb (at (o .parents) y) 0 && eqb (at (o .last) y) e) (o .count)
       (λ y h.
       let l : y < length ts = omega (arith, s .holds-ts .count-is) in
-      rw (first-row y l, sym (s .holds-ts .rows y l .last-is)) (sym (and-assoc (makes (o .makers) ends n c y) (eqb (at (o .parents) y) 0) (eqb (at (o .last) y) e))))
+      rw (first-row y l, sym (s .holds-ts .rows y l .last-is)) (sym (and-assoc (makes (es .makers) (es .count) c y) (eqb (at (o .parents) y) 0) (eqb (at (o .last) y) e))))

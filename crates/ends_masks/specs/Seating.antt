@@ -1,31 +1,27 @@
--- The ends of a board as numbers: each is a row of the offer list. The paper's rules on choices, said of rows and of the columns that the code lends.
+-- The ends of a board by value: each is a row of the offer list. The paper's rules on choices, said of rows and of the columns of ends.
 -- A choice is a number; end k is taken if its digit k is 1. Assumes nothing.
 use mathlib.Core.Path.{_≡_}
 use Prim.Native.Nat.{ℕ, _+_, _≤_, _<_}
-use mathlib.Core.Bool.{Bool, not, _&&_, _||_, cond}
+use mathlib.Core.Bool.{Bool, true, not, _&&_, _||_, cond}
 use mathlib.Core.List.{List, [], _∷_}
 use mathlib.Core.Option.{Option}
 use lib.Dec.{leb, eqb}
 use lib.Bits.{bitAnd}
 use lib.ListN.{length}
-use Rattle.paper.specs.Lists.{at, has, below, all, any, count, lowest, within, _⇒_}
-use Rattle.paper.specs.Table.{nodes, kind, owner, lower, upper, into, inputs, isAction, isPin, isFork, isBuffer, isOutgoing, target as targetOfEdge}
+use Rattle.paper.specs.Lists.{at, has, below, all, any, count, lowest, oneIf, within, _⇒_}
+use Rattle.paper.specs.Limits.{limits}
+use Rattle.paper.specs.Answers.{good}
+use Rattle.paper.specs.Table.{nodes, edges, kind, owner, lower, upper, into, inputs, isAction, isPin, isFork, isBuffer, isOutgoing, isObjectNode, tableFine, target as targetOfEdge}
+use Rattle.paper.specs.Marking.{Marking}
 use Rattle.paper.specs.Offers.{Offer, elem}
 use Rattle.paper.specs.Choices.{Board, howMany, end}
 use Rattle.offers.specs.Sets.{nth, meets}
 use Rattle.offers.specs.Rows.{Rows, Holds}
+use Rattle.offers.specs.Struct.{rowsOf}
+use Rattle.offers.specs.declared.Offers.{Offers}
+use Rattle.ends_masks.specs.declared.Ends.{Ends}
 
--- ---- a board and its rows
--- the rows r hold the offers of the board d, as the trees ts, and end k is row `ends k`
-pub record Seated (t : List ℕ) (d : Board) (r : Rows) (ts : List Offer) (ends : List ℕ) (n : ℕ) : Type 0 where
-  pub table-is : d .table ≡ t
-  pub holds-ts : Holds t r ts
-  pub offers-are : (x : Offer) → elem x ts ≡ elem x (d .allOffers)
-  pub number : n ≡ howMany d
-  pub few : n ≤ 20
-  pub inside : (k : ℕ) → k < n → at ends k < length ts
-  pub ends-are : (k : ℕ) → k < n → nth ts (at ends k) ≡ end d k
-
+-- ---- a board, its rows and its ends
 -- the first n ends are among the first `rows` rows
 pub record Rowed (ends : List ℕ) (n rows : ℕ) : Type 0 where
   pub many : n ≤ length ends
@@ -37,11 +33,58 @@ pub record Columns (t last ends edge target home : List ℕ) (n : ℕ) : Type 0 
   pub targets-are : (k : ℕ) → k < n → at target k ≡ targetOfEdge t (at edge k)
   pub homes-are : (k : ℕ) → k < n → at home k ≡ cond (isPin (kind t (at target k))) (owner t (at target k)) (at target k)
 
+-- the arrays have the lengths that they are declared with, which their types as lists don't say, and there are no more ends than those
+pub record EndsFull (e : Ends) : Type 0 where
+  pub rows-full : length (e .row) ≡ 20
+  pub edges-full : length (e .edge) ≡ 20
+  pub targets-full : length (e .target) ≡ 20
+  pub homes-full : length (e .home) ≡ 20
+  pub makers-full : length (e .makers) ≡ 20
+  pub foes-full : length (e .foes) ≡ 20
+  pub few : e .count ≤ 20
+
+-- the ends e are the rows `ends` of the list with these columns
+pub record EndsSeated (t last makers foes ends : List ℕ) (e : Ends) : Type 0 where
+  pub rows-are : (k : ℕ) → k < e .count → at (e .row) k ≡ at ends k
+  pub columns : Columns t last ends (e .edge) (e .target) (e .home) (e .count)
+  pub makers-are : (k : ℕ) → k < e .count → at (e .makers) k ≡ at makers (at ends k)
+  pub foes-are : (k : ℕ) → k < e .count → at (e .foes) k ≡ at foes (at ends k)
+
+-- the rows r hold the offers of the board d, as the trees ts, and the ends e are d's
+pub record Seated (t : List ℕ) (d : Board) (r : Rows) (ts : List Offer) (e : Ends) : Type 0 where
+  pub table-is : d .table ≡ t
+  pub holds-ts : Holds t r ts
+  pub offers-are : (x : Offer) → elem x ts ≡ elem x (d .allOffers)
+  pub number : e .count ≡ howMany d
+  pub few : e .count ≤ 20
+  pub inside : (k : ℕ) → k < e .count → at (e .row) k < length ts
+  pub ends-are : (k : ℕ) → k < e .count → nth ts (at (e .row) k) ≡ end d k
+  pub edges-are : (k : ℕ) → k < e .count → at (e .edge) k ≡ r .entry (at (e .row) k) .last
+  pub edges-inside : (k : ℕ) → k < e .count → at (e .edge) k < edges t
+  pub targets-are : (k : ℕ) → k < e .count → at (e .target) k ≡ targetOfEdge t (at (e .edge) k)
+  pub homes-are : (k : ℕ) → k < e .count → at (e .home) k ≡ cond (isPin (kind t (at (e .target) k))) (owner t (at (e .target) k)) (at (e .target) k)
+  pub makers-are : (k : ℕ) → k < e .count → at (e .makers) k ≡ r .entry (at (e .row) k) .makers
+  pub foes-are : (k : ℕ) → k < e .count → at (e .foes) k ≡ r .entry (at (e .row) k) .foes
+
+-- runs and stock are what the marking m says of the actions and the object nodes of the table t
+pub record Told (t : List ℕ) (m : Marking) (runs stock : List ℕ) : Type 0 where
+  pub table-fine : tableFine t limits ≡ good tt
+  pub running : (i : ℕ) → i < nodes t → isAction (kind t i) ≡ true → at runs i ≡ oneIf (m .runs i)
+  pub stocks : (i : ℕ) → i < nodes t → isObjectNode (kind t i) ≡ true → at stock i ≡ length (m .stock i)
+
+-- the board d stands in the offers o with some links, in the ends e, and in what its marking says of actions and stocks, none of which is over its upper
+pub record Stands (t : List ℕ) (d : Board) (o : Offers) (e : Ends) (runs stock : List ℕ) : Type 0 where
+  pub links : List ℕ
+  pub trees : List Offer
+  pub seated : Seated t d (rowsOf o links) trees e
+  pub told : Told t (d .current) runs stock
+  pub roomy : (i : ℕ) → length (d .current .stock i) ≤ upper t i
+
 -- ---- rule 1
-module _ (foes makers ends : List ℕ) where
+module _ (foes makers : List ℕ) where
   -- ends k and j compete
   abbrev pub rival : ℕ → ℕ → Bool
-  rival k j = not (eqb j k) && meets (at foes (at ends k)) (at makers (at ends k)) (at foes (at ends j)) (at makers (at ends j))
+  rival k j = not (eqb j k) && meets (at foes k) (at makers k) (at foes j) (at makers j)
 
   -- end k competes with a taken one
   unfoldable pub rivalled : ℕ → ℕ → ℕ → Bool
@@ -52,17 +95,17 @@ module _ (foes makers ends : List ℕ) where
 
 -- ---- rule 2
 -- row y is a maker of a taken end
-unfoldable pub makes : List ℕ → List ℕ → ℕ → ℕ → ℕ → Bool
-makes makers ends n c y = any (λ k. has c k && has (at makers (at ends k)) y) (below n)
+unfoldable pub makes : List ℕ → ℕ → ℕ → ℕ → Bool
+makes makers n c y = any (λ k. has c k && has (at makers k) y) (below n)
 
 -- rows y and z leave the same node and were made from an offer in common
 abbrev pub siblings : List ℕ → List ℕ → ℕ → ℕ → Bool
 siblings node parents y z = eqb (at node y) (at node z) && not (eqb (bitAnd (at parents y) (at parents z)) 0)
 
-module _ (node parents makers ends : List ℕ) (rows n c : ℕ) where
+module _ (node parents makers : List ℕ) (rows n c : ℕ) where
   -- if a sibling of row z is a maker of a taken end, so is z
   unfoldable pub kept : ℕ → Bool
-  kept z = any (λ y. siblings node parents y z && makes makers ends n c y) (below rows) ⇒ makes makers ends n c z
+  kept z = any (λ y. siblings node parents y z && makes makers n c y) (below rows) ⇒ makes makers n c z
 
   unfoldable pub passed : ℕ → Bool
   passed i = all (λ z. eqb (at node z) i ⇒ kept z) (below rows)
@@ -95,18 +138,21 @@ module _ (t edge target home runs stock : List ℕ) (n c : ℕ) where
 
 -- ---- all of them
 -- the rules on choices, in the paper's order and words: no rivals are taken together, forks are passed whole, destinations fit
-unfoldable pub noRivals : List ℕ → List ℕ → List ℕ → ℕ → ℕ → Bool
-noRivals foes makers ends n c = all (λ k. not (has c k && rivalled foes makers ends n c k)) (below n)
+unfoldable pub noRivals : List ℕ → List ℕ → ℕ → ℕ → Bool
+noRivals foes makers n c = all (λ k. not (has c k && rivalled foes makers n c k)) (below n)
 
-unfoldable pub forksWhole : List ℕ → List ℕ → List ℕ → List ℕ → List ℕ → ℕ → ℕ → ℕ → Bool
-forksWhole t node parents makers ends rows n c = all (λ i. not (isFork (kind t i) && not (passed node parents makers ends rows n c i))) (below (nodes t))
+unfoldable pub forksWhole : List ℕ → List ℕ → List ℕ → List ℕ → ℕ → ℕ → ℕ → Bool
+forksWhole t node parents makers rows n c = all (λ i. not (isFork (kind t i) && not (passed node parents makers rows n c i))) (below (nodes t))
 
 unfoldable pub destinationsFit : List ℕ → List ℕ → List ℕ → List ℕ → List ℕ → List ℕ → ℕ → ℕ → Bool
 destinationsFit t edge target home runs stock n c = all (fits t edge target home runs stock n c) (below (nodes t))
 
-module _ (t node parents makers foes ends edge target home runs stock : List ℕ) (rows n : ℕ) where
+module _ (t : List ℕ) (o : Offers) (e : Ends) (runs stock : List ℕ) where
   abbrev pub rowRules : List (ℕ → Bool)
-  rowRules = noRivals foes makers ends n ∷ forksWhole t node parents makers ends rows n ∷ destinationsFit t edge target home runs stock n ∷ []
+  rowRules =
+      noRivals (e .foes) (e .makers) (e .count)
+      ∷ forksWhole t (o .node) (o .parents) (e .makers) (o .count) (e .count)
+      ∷ destinationsFit t (e .edge) (e .target) (e .home) runs stock (e .count) ∷ []
 
   -- the choice c is acceptable
   unfoldable pub allowed : ℕ → Bool

@@ -1,7 +1,8 @@
-// Ends as rows of the offer list: their columns, and masks of ends and words of rows by which the rules on choices are asked.
-// Words and numbers only; what they mean for offers is said by the laws. Assumes no more than its `requires`.
+// The ends of a board by value, each with what is asked of it, and masks of ends and words of rows by which the rules on choices are asked.
+// Loops take the columns of the ends as lent slices: a struct is copied at each call. Words and numbers only; what they mean for offers is said by the
+// laws. Assumes no more than its `requires`.
 ghost use mathlib.Core.Path.{_≡_};
-ghost use mathlib.Core.Bool.{Bool, not, _&&_, _||_, cond};
+ghost use mathlib.Core.Bool.{Bool, not, _&&_, cond};
 ghost use Prim.Native.Nat.{ℕ, _+_, _≤_, _<_};
 ghost use lib.Dec.{eqb};
 ghost use lib.Bits.{bitAnd};
@@ -11,8 +12,21 @@ ghost use Rattle.paper.specs.Answers.{good};
 ghost use Rattle.paper.specs.Table.{kind, owner, isPin};
 ghost use Rattle.table.specs.Reading.{tableRead};
 ghost use Rattle.offers.specs.Sets.{Marks};
-ghost use Rattle.ends_masks.specs.Seating.{Columns, Rowed, rival, siblings, makes, served};
+ghost use Rattle.ends_masks.specs.Seating.{Columns, Rowed, EndsFull, EndsSeated, rival, siblings, makes};
+use offers::MOST_ENDS;
 use table::Table;
+
+// The ends of a board, in order: each one's row of the offer list, its last edge, its target, the node that the target belongs to, and the words of its makers
+// and foes.
+pub struct Ends {
+    pub row: [u8; MOST_ENDS],
+    pub edge: [u8; MOST_ENDS],
+    pub target: [u8; MOST_ENDS],
+    pub home: [u8; MOST_ENDS],
+    pub makers: [u64; MOST_ENDS],
+    pub foes: [u64; MOST_ENDS],
+    pub count: usize,
+}
 
 // ---- columns
 
@@ -28,7 +42,7 @@ fn home_of(t: &[u8], table: Table, i: usize) -> u8
 }
 
 // The last edge of each end, its target, and the node that the target belongs to.
-pub fn columns(
+fn columns(
     t: &[u8],
     table: Table,
     last: &[u8],
@@ -49,6 +63,62 @@ pub fn columns(
         target[k] = to as u8;
         home[k] = home_of(t, table, to);
         k += 1;
+    }
+}
+
+// Each end's word of a column of words.
+fn words_of(column: &[u64], ends: &[u8], n: usize) -> [u64; MOST_ENDS]
+    requires { ⌜ Rowed (now ends) n (length (now column)) × (n ≤ 20) ⌝ }
+    ensures { λ r. ⌜ (length r ≡ 20) × ((k : ℕ) → k < n → at r k ≡ at (now (column .entry)) (at (now (ends .entry)) k)) ⌝ }
+{
+    let mut to = [0u64; MOST_ENDS];
+    let mut k: usize = 0;
+    while k < n {
+        to[k] = column[wire::wide(ends[k])];
+        k += 1;
+    }
+    to
+}
+
+// Each end's row.
+fn rows_of(ends: &[u8], n: usize) -> [u8; MOST_ENDS]
+    requires { ⌜ (n ≤ length (now ends)) × (n ≤ 20) ⌝ }
+    ensures { λ r. ⌜ (length r ≡ 20) × ((k : ℕ) → k < n → at r k ≡ at (now (ends .entry)) k) ⌝ }
+{
+    let mut to = [0u8; MOST_ENDS];
+    let mut k: usize = 0;
+    while k < n {
+        to[k] = ends[k];
+        k += 1;
+    }
+    to
+}
+
+// The n ends that are the rows `ends` of the offer list, whose columns are lent.
+pub fn seat(
+    t: &[u8],
+    table: Table,
+    last: &[u8],
+    makers: &[u64],
+    foes: &[u64],
+    ends: &[u8],
+    n: usize,
+) -> Ends
+    requires { ⌜ (tableRead (now t) ≡ good table) × Rowed (now ends) n (length (now last)) × ((k : ℕ) → k < n → at (now last) (at (now ends) k) < table .edges) × Rowed (now ends) n (length (now makers)) × Rowed (now ends) n (length (now foes)) × (n ≤ 20) ⌝ }
+    ensures { λ r. ⌜ EndsFull r × (r .count ≡ n) × EndsSeated (now (t .entry)) (now (last .entry)) (now (makers .entry)) (now (foes .entry)) (now (ends .entry)) r ⌝ }
+{
+    let mut edge = [0u8; MOST_ENDS];
+    let mut target = [0u8; MOST_ENDS];
+    let mut home = [0u8; MOST_ENDS];
+    columns(t, table, last, ends, n, &mut edge, &mut target, &mut home);
+    Ends {
+        row: rows_of(ends, n),
+        edge: edge,
+        target: target,
+        home: home,
+        makers: words_of(makers, ends, n),
+        foes: words_of(foes, ends, n),
+        count: n,
     }
 }
 
@@ -80,41 +150,39 @@ pub fn same(column: &[u8], n: usize, x: usize) -> u32
 }
 
 // The ends that have a row of the word w among their makers.
-pub fn made(makers: &[u64], ends: &[u8], n: usize, rows: u64) -> u32
-    requires { ⌜ Rowed (now ends) n (length (now makers)) × (n ≤ 20) ⌝ }
-    ensures { λ r. ⌜ Marks (λ k. not (eqb (bitAnd (at (now (makers .entry)) (at (now (ends .entry)) k)) rows) 0)) n r ⌝ }
+pub fn made(makers: &[u64], n: usize, rows: u64) -> u32
+    requires { ⌜ (n ≤ length (now makers)) × (n ≤ 20) ⌝ }
+    ensures { λ r. ⌜ Marks (λ k. not (eqb (bitAnd (at (now (makers .entry)) k) rows) 0)) n r ⌝ }
 {
     let mut w: u64 = 0;
     let mut k: usize = 0;
     while k < n {
-        w = mark(w, k, makers[wire::wide(ends[k])] & rows != 0);
+        w = mark(w, k, makers[k] & rows != 0);
         k += 1;
     }
     w as u32
 }
 
 // Whether ends k and j compete.
-fn are_rivals(foes: &[u64], makers: &[u64], ends: &[u8], n: usize, k: usize, j: usize) -> bool
-    requires { ⌜ Rowed (now ends) n (length (now makers)) × Rowed (now ends) n (length (now foes)) × (k < n) × (j < n) ⌝ }
-    ensures { λ r. ⌜ r ≡ rival (now (foes .entry)) (now (makers .entry)) (now (ends .entry)) k j ⌝ }
+fn are_rivals(foes: &[u64], makers: &[u64], k: usize, j: usize) -> bool
+    requires { ⌜ (k < length (now foes)) × (j < length (now foes)) × (k < length (now makers)) × (j < length (now makers)) ⌝ }
+    ensures { λ r. ⌜ r ≡ rival (now (foes .entry)) (now (makers .entry)) k j ⌝ }
 {
     if j == k {
         return false;
     }
-    let one = wire::wide(ends[k]);
-    let other = wire::wide(ends[j]);
-    offers::compete(foes[one], makers[one], foes[other], makers[other])
+    offers::compete(foes[k], makers[k], foes[j], makers[j])
 }
 
 // The ends that compete with end k.
-pub fn rivals(foes: &[u64], makers: &[u64], ends: &[u8], n: usize, k: usize) -> u32
-    requires { ⌜ Rowed (now ends) n (length (now makers)) × Rowed (now ends) n (length (now foes)) × (k < n) × (n ≤ 20) ⌝ }
-    ensures { λ r. ⌜ Marks (rival (now (foes .entry)) (now (makers .entry)) (now (ends .entry)) k) n r ⌝ }
+pub fn rivals(foes: &[u64], makers: &[u64], n: usize, k: usize) -> u32
+    requires { ⌜ (n ≤ length (now foes)) × (n ≤ length (now makers)) × (k < n) × (n ≤ 20) ⌝ }
+    ensures { λ r. ⌜ Marks (rival (now (foes .entry)) (now (makers .entry)) k) n r ⌝ }
 {
     let mut w: u64 = 0;
     let mut j: usize = 0;
     while j < n {
-        w = mark(w, j, are_rivals(foes, makers, ends, n, k, j));
+        w = mark(w, j, are_rivals(foes, makers, k, j));
         j += 1;
     }
     w as u32
@@ -146,57 +214,26 @@ pub fn family(node: &[u8], parents: &[u64], rows: usize, z: usize) -> u64
 }
 
 // The makers of end k, if it is taken.
-fn makers_if_taken(makers: &[u64], ends: &[u8], n: usize, c: u32, k: usize) -> u64
-    requires { ⌜ Rowed (now ends) n (length (now makers)) × (k < n) × (n ≤ 20) ⌝ }
-    ensures { λ r. ⌜ ((y : ℕ) → has r y ≡ has c k && has (at (now (makers .entry)) (at (now (ends .entry)) k)) y) ⌝ }
+fn makers_if_taken(makers: &[u64], c: u32, k: usize) -> u64
+    requires { ⌜ (k < length (now makers)) × (k < 32) ⌝ }
+    ensures { λ r. ⌜ ((y : ℕ) → has r y ≡ has c k && has (at (now (makers .entry)) k) y) ⌝ }
 {
     if (c >> (k as u32)) % 2 != 1 {
         return 0;
     }
-    makers[wire::wide(ends[k])]
+    makers[k]
 }
 
 // The rows that are makers of taken ends.
-pub fn all_makers(makers: &[u64], ends: &[u8], n: usize, c: u32) -> u64
-    requires { ⌜ Rowed (now ends) n (length (now makers)) × (n ≤ 20) ⌝ }
-    ensures { λ r. ⌜ ((y : ℕ) → has r y ≡ makes (now (makers .entry)) (now (ends .entry)) n c y) ⌝ }
+pub fn all_makers(makers: &[u64], n: usize, c: u32) -> u64
+    requires { ⌜ (n ≤ length (now makers)) × (n ≤ 20) ⌝ }
+    ensures { λ r. ⌜ ((y : ℕ) → has r y ≡ makes (now (makers .entry)) n c y) ⌝ }
 {
     let mut w: u64 = 0;
     let mut k: usize = 0;
     while k < n {
-        w = w | makers_if_taken(makers, ends, n, c, k);
+        w = w | makers_if_taken(makers, c, k);
         k += 1;
     }
     w
-}
-
-// ---- ends that are taken
-
-// Whether end k is taken and belongs to node i.
-fn serves(target: &[u8], home: &[u8], c: u32, i: usize, k: usize) -> bool
-    requires { ⌜ (k < length (now target)) × (k < length (now home)) × (k < 32) ⌝ }
-    ensures { λ r. ⌜ r ≡ has c k && (eqb (at (now (target .entry)) k) i || eqb (at (now (home .entry)) k) i) ⌝ }
-{
-    if !choice::is_taken(c, k) {
-        return false;
-    }
-    if wire::wide(target[k]) == i {
-        return true;
-    }
-    wire::wide(home[k]) == i
-}
-
-// Whether a taken end belongs to node i.
-pub fn is_served(target: &[u8], home: &[u8], n: usize, c: u32, i: usize) -> bool
-    requires { ⌜ (n ≤ length (now target)) × (n ≤ length (now home)) × (n ≤ 20) ⌝ }
-    ensures { λ r. ⌜ r ≡ served (now (target .entry)) (now (home .entry)) n c i ⌝ }
-{
-    let mut k: usize = 0;
-    while k < n {
-        if serves(target, home, c, i, k) {
-            return true;
-        }
-        k += 1;
-    }
-    false
 }

@@ -7,26 +7,24 @@ use lib.ListN.{length}
 use Rattle.paper.specs.Answers.{refused, good}
 use Rattle.paper.specs.Offers.{Terms}
 use Rattle.paper.specs.Choices.{board}
-use Rattle.paper.specs.Operations.{sheet, step, PickOn, Pick, WhyIf, Why, packed, inRoom, Reply, Leaves}
+use Rattle.paper.specs.Operations.{sheet, step, PickOn, Pick, WhyIf, Why, packed, inRoom, Reply, Leaves, Only}
 use Rattle.table.specs.Reading.{tableRead}
 use Rattle.offers.specs.declared.Offers.{Offers}
 use Rattle.marking_held.specs.declared.Held.{Held}
-use Rattle.ends.specs.declared.EndsAnswer.{EndsAnswer}
-use Rattle.ends.specs.declared.EndsAnswer.the-variants.{Good, Refused}
 use Rattle.board.specs.Reading.{Seats, SeatsRoom, Laid}
-use Rattle.board.proofs.BoardLaws.{board-refused, read-refusal, read-laid}
+use Rattle.board.proofs.BoardLaws.{board-refused}
 use Rattle.sheet_write.specs.Listing.{Shows, sheetShown}
 use Rattle.sheet_write.proofs.Meaning.{sheet-shown, listed-measured}
-use Rattle.step.specs.Stepping.{chosen}
+use Rattle.ends_masks.specs.declared.Ends.{Ends}
+use Rattle.step.specs.Stepping.{chosen, Standing}
 use Rattle.keshmirun.specs.declared.asking.Request.{Request}
-use Rattle.keshmirun.specs.declared.asking.Request.the-variants.{Sheet, Pick as PickFor, Why as WhyFor, Step, Count}
-use Rattle.keshmirun.specs.Asking.{Counted, Responds, Read}
+use Rattle.keshmirun.specs.declared.asking.Request.the-variants.{Pick as PickFor, Why as WhyFor, Step, Count}
+use Rattle.keshmirun.specs.Asking.{Counted, Responds}
 
 module _ (t b : List ℕ) (w : Terms) (ks : List ℕ) where
   -- ---- rows 1 to 8, and 18
   pub asked-refused : (q : Request) (n p word : ℕ) (out : List ℕ) → board t b w ≡ refused n p → word ≡ packed n p 0 → Responds q t b w ks word out out
-  unfolding sheet Pick Why step Counted
-  asked-refused Sheet n p word out e h = record { answer = refused n p; allowed = sym (rw e); reply = (h, refl) }
+  unfolding Pick Why step Counted
   asked-refused (PickFor i) n p word out e h = record { answer = refused n p; allowed = rw e refl; reply = (h, refl) }
   asked-refused (WhyFor i) n p word out e h = record { answer = refused n p; allowed = rw e refl; reply = (h, refl) }
   asked-refused Step n p word out e h = record { answer = refused n p; allowed = sym (rw e); reply = (h, refl) }
@@ -36,50 +34,45 @@ module _ (t b : List ℕ) (w : Terms) (ks : List ℕ) where
   table-refused q n p word out e h = asked-refused q n p word out (board-refused t b w n p e) h
 
   -- ---- on a board
-  module _ {o : Offers} {x : Held} {s : Seats} {n : ℕ} (l : Laid t b w o x s n) (q : Request) (word : ℕ) (out after : List ℕ) where
-    pub sheet-leaves : q ≡ Sheet → 2560 ≤ length (s .cells)
-        → Reply (inRoom (length out) (good (sheetShown (o .last) (o .has) (o .value) (o .paths) (s .ends) (s .order) (s .lens) (s .cells) n))) word out after
-        → Responds q t b w ks word out after
-    unfolding sheet
-    sheet-leaves e room h =
-        rw e
-        (record {
-          answer = good (sheetShown (o .last) (o .has) (o .value) (o .paths) (s .ends) (s .order) (s .lens) (s .cells) n);
-          allowed = sym (rw (l .is-board, sheet-shown t o (l .links) (l .trees) (l .on .allEnds) (s .ends) (s .order) (s .lens) (s .cells) n room (l .seated .holds-ts) (l .listed)));
-          reply = h;
-        })
-
-    pub pick-leaves : (i : ℕ) → q ≡ PickFor i → Leaves (PickOn (l .on) i) word out after → Responds q t b w ks word out after
+  module _ {o : Offers} {e : Ends} {x : Held} (y : Standing t b o e x) (is-board : board t b w ≡ good (y .on)) (q : Request) (word : ℕ) (out after : List ℕ) where
+    pub pick-leaves : (i : ℕ) → q ≡ PickFor i → Leaves (PickOn (y .on) i) word out after → Responds q t b w ks word out after
     unfolding Pick
-    pick-leaves i e h = rw e (record { answer = h .answer; allowed = rw (l .is-board) (h .allowed); reply = h .reply })
+    pick-leaves i f h = rw f (record { answer = h .answer; allowed = rw is-board (h .allowed); reply = h .reply })
 
-    pub why-leaves : (i : ℕ) → q ≡ WhyFor i → Leaves (WhyIf (good (l .on)) i) word out after → Responds q t b w ks word out after
+    pub why-leaves : (i : ℕ) → q ≡ WhyFor i → Leaves (WhyIf (good (y .on)) i) word out after → Responds q t b w ks word out after
     unfolding Why
-    why-leaves i e h = rw e (record { answer = h .answer; allowed = rw (l .is-board) (h .allowed); reply = h .reply })
+    why-leaves i f h = rw f (record { answer = h .answer; allowed = rw is-board (h .allowed); reply = h .reply })
 
-    pub step-leaves : q ≡ Step → Reply (inRoom (length out) (chosen t (l .on) ks)) word out after → Responds q t b w ks word out after
+    pub step-leaves : q ≡ Step → Reply (inRoom (length out) (chosen t (y .on) ks)) word out after → Responds q t b w ks word out after
     unfolding step chosen
-    step-leaves e h = rw e (record { answer = chosen t (l .on) ks; allowed = sym (rw (l .is-board)); reply = h })
+    step-leaves f h = rw f (record { answer = chosen t (y .on) ks; allowed = sym (rw is-board); reply = h })
 
-    pub count-leaves : (i k : ℕ) → q ≡ Count i k → (1 ≤ word) × (word < 2 ^ (n + 22)) → Responds q t b w ks word out out
+    pub count-leaves : (i k : ℕ) → q ≡ Count i k → (1 ≤ word) × (word < 2 ^ (e .count + 22)) → Responds q t b w ks word out out
     unfolding Counted
-    count-leaves i k e h = rw e (rw (l .is-board, ← l .seated .number) h, refl)
+    count-leaves i k f h = rw f (rw (is-board, ← y .stands .seated .number) h, refl)
 
--- ---- what the board's reader answered, taken apart
-module _ {t b : List ℕ} {o : Offers} {x : Held} {s : Seats} {r : EndsAnswer} (y : Read t b o x s r) where
-  pub read-refused : (ks : List ℕ) (q : Request) (n p word : ℕ) (out : List ℕ) → r ≡ Refused n p → word ≡ packed n p 0 → Responds q t b (y .under) ks word out out
-  read-refused ks q n p word out e h = asked-refused t b (y .under) ks q n p word out (read-refusal t b (y .under) o x s r (y .is-read) n p e) h
+-- ---- a sheet
+pub sheet-refused : (t b : List ℕ) (w : Terms) (n p word : ℕ) (out : List ℕ) → board t b w ≡ refused n p → word ≡ packed n p 0 → Leaves (Only (sheet t b w)) word out out
+unfolding sheet
+sheet-refused t b w n p word out e h = record { answer = refused n p; allowed = sym (rw e); reply = (h, refl) }
 
-  pub laid-in : (n : ℕ) → r ≡ Good n → Laid t b (y .under) o x s n
-  laid-in n e = read-laid t b (y .under) o x s r (y .is-read) n e
-
--- ---- what is lent
 module _ {t b : List ℕ} {w : Terms} {o : Offers} {x : Held} {s : Seats} {n : ℕ} (l : Laid t b w o x s n) (r : SeatsRoom s) where
+  pub sheet-leaves : (word : ℕ) (out after : List ℕ)
+      → Reply (inRoom (length out) (good (sheetShown (o .last) (o .has) (o .value) (o .paths) (s .ends) (s .order) (s .lens) (s .cells) n))) word out after
+      → Leaves (Only (sheet t b w)) word out after
+  unfolding sheet
+  sheet-leaves word out after h = record {
+    answer = good (sheetShown (o .last) (o .has) (o .value) (o .paths) (s .ends) (s .order) (s .lens) (s .cells) n);
+    allowed =
+        sym (rw (l .is-board, sheet-shown t o (l .links) (l .trees) (l .on .allEnds) (s .ends) (s .order) (s .lens) (s .cells) n (r .cells-room) (l .holds-ts) (l .listed)));
+    reply = h;
+  }
+
   pub laid-shows : Shows (o .last) (o .has) (o .value) (o .paths) (s .ends) (s .order) (s .lens) (s .cells) n
   laid-shows = record {
     measured =
-        listed-measured t o (l .links) (l .trees) (l .on .allEnds) (s .ends) (s .order) (s .lens) (s .cells) n (r .cells-room) (l .seated .holds-ts) (l .listed)
-        (omega (arith, l .seated .few, r .ends-room)) (omega (arith, l .full .paths-full)) (r .order-room) (r .lens-room);
+        listed-measured t o (l .links) (l .trees) (l .on .allEnds) (s .ends) (s .order) (s .lens) (s .cells) n (r .cells-room) (l .holds-ts) (l .listed)
+        (omega (arith, l .listed .few, r .ends-room)) (omega (arith, l .full .paths-full)) (r .order-room) (r .lens-room);
     lasts = omega (arith, l .full .lasts-full);
     flags = omega (arith, l .full .haves-full);
     values = omega (arith, l .full .values-full);

@@ -1,16 +1,16 @@
 -- Rows 15 and 16: what the three readings of a gift come to. Assumes nothing.
 use mathlib.Core.Path.{_≡_, refl, sym, ap, ap₂, _∙_}
-use Prim.Native.Nat.{ℕ, _+_, _≤_, _<_}
+use Prim.Native.Nat.{ℕ, _+_, _*_, _≤_, _<_}
 use native.Mathlib.Omega.{arith}
 use mathlib.Core.Bool.{Bool, true, false, _&&_}
-use mathlib.Core.List.{List, _++_}
+use mathlib.Core.List.{List, [], _∷_, _++_}
 use mathlib.Core.Option.{Option, none, some}
 use lib.Dec.{leb}
 use lib.ListN.{length, length-append}
 use borrow.Author.Tests.{leb-true, lt-ltb}
-use Rattle.paper.specs.Lists.{at, all, below}
+use Rattle.paper.specs.Lists.{at, all, below, keep}
 use Rattle.paper.specs.Answers.{Answer, refused, good}
-use Rattle.paper.specs.Bytes.{four}
+use Rattle.paper.specs.Bytes.{four, listed, valuesRead, eachRead, _>>=_ as _then_, done}
 use Rattle.paper.specs.Limits.{limits}
 use Rattle.paper.specs.Table.{nodes, edges, kind, upper, source, isObjectNode}
 use Rattle.paper.specs.Marking.{Marking, hasTokens}
@@ -18,18 +18,22 @@ use Rattle.paper.specs.Operations.{valueLists, listFor, given, roomIn}
 use Rattle.paper.proofs.Bools.{never}
 use Rattle.paper.proofs.Lists.{all-below}
 use Rattle.paper.proofs.Ladders.{no-good, need-good, known-good, same-good}
-use Rattle.paper.proofs.Lengths.{gather-append}
+use Rattle.paper.proofs.Lengths.{gather-append, length-keep, length-from}
+use Rattle.paper.proofs.Bytes.{Bytes, went-on, same-read, whole-is, values-are, length-listed}
 use Rattle.paper.proofs.Members.{in-keep-below}
 use Rattle.paper.proofs.Given.{not-listed}
 use Rattle.paper.proofs.Tables.{GoodTable, upper-fits}
-use Rattle.marking.specs.Values.{isListed, listedNodes, ValuesNoted, ValuesRead}
-use Rattle.marking_held.specs.Holding.{EdgesHeld}
-use Rattle.marking_write.specs.Writing.{Becomes, Sources}
-use Rattle.marking_give.specs.Giving.{gained, Amounts, Gained, giveOf, Ready, Gives}
+use Rattle.marking.specs.Values.{isListed, listedNodes, saidOf, ValuesNoted, ValuesRead}
+use Rattle.marking_held.specs.declared.Held.{Held}
+use Rattle.marking_held.proofs.HeldLaws.{held-nodes}
+use Rattle.marking_held.specs.MarkingHeld.{Narrowed, StockHeld, MarkingHeld}
+use Rattle.marking_give.specs.declared.GiveAnswer.{GiveAnswer}
+use Rattle.marking_give.specs.Giving.{gained, Amounts, CountsAre, Gained, giveOf, Givable, Gives}
 use Rattle.marking.specs.declared.values.ValuesAnswer.the-variants.{Good, Refused}
 
 -- the reader of lists taken apart
-pub lists-refused : (t : List ℕ) (k o : ℕ) (b place more : List ℕ) (l : Option (List (List ℕ))) (n p : ℕ) → ValuesRead t k o b place more l (Refused n p) → (l ≡ none) × (_≡_ {A = Answer (Unit {0})} (refused n p) (refused 15 0))
+pub lists-refused : (t : List ℕ) (k o : ℕ) (b place more : List ℕ) (l : Option (List (List ℕ))) (n p : ℕ) → ValuesRead t k o b place more l (Refused n p)
+    → (l ≡ none) × (_≡_ {A = Answer (Unit {0})} (refused n p) (refused 15 0))
 lists-refused t k o b place more none n p h = (refl, h)
 lists-refused t k o b place more (some vss) n p h = no-good (h .0)
 
@@ -38,99 +42,137 @@ pub lists-good : (t : List ℕ) (k o : ℕ) (b place more : List ℕ) (l : Optio
 lists-good t k o b place more none h = no-good (sym h)
 lists-good t k o b place more (some vss) h = (vss, refl, h .1)
 
+-- two bytes say every place in lists that were read
+lists-short : (ps b : List ℕ) (vss : List (List ℕ)) (rest : List ℕ) → Bytes b → eachRead (λ p. valuesRead (limits .mostUpper)) ps b ≡ some (vss, rest)
+    → length b ≤ 65 * length ps + length rest
+lists-short [] b vss rest u h = omega (arith, ap length (same-read h .1))
+lists-short (p ∷ ps) b vss rest u h =
+    let f = went-on (valuesRead (limits .mostUpper) b) (λ x. eachRead (λ p. valuesRead (limits .mostUpper)) ps then (λ xs. done (x ∷ xs))) (vss, rest) h in
+    let v = values-are (limits .mostUpper) b (f .0 .0) (f .0 .1) u (f .1) in
+    let g = went-on (eachRead (λ p. valuesRead (limits .mostUpper)) ps (f .0 .1)) (λ xs. done (f .0 .0 ∷ xs)) (vss, rest) (f .2) in
+    let more = lists-short ps (f .0 .1) (g .0 .0) (g .0 .1) (v .stand .left) (g .1) in
+    omega (
+      arith,
+      more,
+      v .many,
+      ap length (v .stand .parts),
+      length-append (listed (f .0 .0)) (f .0 .1),
+      length-listed (f .0 .0),
+      ap length (same-read (g .2) .1),
+    )
+
+pub values-short : (t : List ℕ) (k o : ℕ) (b : List ℕ) (vss : List (List ℕ)) → nodes t ≤ 48 → Bytes b → valueLists (listedNodes t k o) b ≡ some vss
+    → length b < 65536
+unfolding valueLists listedNodes
+values-short t k o b vss n u h =
+    let r = whole-is (eachRead (λ p. valuesRead (limits .mostUpper)) (keep (isListed t k o) (below (nodes t))) b) vss h in
+    omega (
+      arith,
+      lists-short (keep (isListed t k o) (below (nodes t))) b vss [] u r,
+      length-keep (isListed t k o) (below (nodes t)),
+      length-from 0 (nodes t),
+    )
+
 module _ (t : List ℕ) (k o : ℕ) (fires : ℕ → Bool) (m : Marking) (b : List ℕ) where
-  abbrev then : List (List ℕ) → Marking
-  then vss = given (λ e. hasTokens t e && fires (source t e)) (listedNodes t k o) vss m
+  abbrev then-held : List (List ℕ) → Marking
+  then-held vss = given (λ e. hasTokens t e && fires (source t e)) (listedNodes t k o) vss m
 
   give-15 : valueLists (listedNodes t k o) b ≡ none → giveOf t k o fires m b ≡ refused 15 0
   unfolding giveOf
   give-15 e = rw e
 
-  give-16 : (vss : List (List ℕ)) → valueLists (listedNodes t k o) b ≡ some vss → roomIn t (then vss) ≡ false → giveOf t k o fires m b ≡ refused 16 0
+  give-16 : (vss : List (List ℕ)) → valueLists (listedNodes t k o) b ≡ some vss → roomIn t (then-held vss) ≡ false → giveOf t k o fires m b ≡ refused 16 0
   unfolding giveOf
   give-16 vss e r = rw (e, r)
 
-  give-all : (vss : List (List ℕ)) → valueLists (listedNodes t k o) b ≡ some vss → roomIn t (then vss) ≡ true → giveOf t k o fires m b ≡ good (then vss)
+  give-all : (vss : List (List ℕ)) → valueLists (listedNodes t k o) b ≡ some vss → roomIn t (then-held vss) ≡ true → giveOf t k o fires m b ≡ good (then-held vss)
   unfolding giveOf
   give-all vss e r = rw (e, r)
 
-  module _ (old from kept place more runs tokens₀ tokens fire : List ℕ) (ready : Ready t k o fires m old from kept runs tokens₀ fire) where
-    pub gives-15 : (n p : ℕ) → ValuesRead t k o b place more (valueLists (listedNodes t k o) b) (Refused n p) → Gives t old from kept b place more runs tokens (giveOf t k o fires m b) (Refused n p)
-    gives-15 n p h = let r = lists-refused t k o b place more (valueLists (listedNodes t k o) b) n p h in rw (give-15 (r .0)) (r .1)
+  module _ (old : List ℕ) (x : Held) (g : Givable t k o m old x) (places more : List ℕ) where
+    pub gives-15 : (n p : ℕ) (r : GiveAnswer) → r .answer ≡ Refused n p → ValuesRead t k o b places more (valueLists (listedNodes t k o) b) (Refused n p)
+        → Gives t old b (giveOf t k o fires m b) r
+    gives-15 n p r e h =
+        let z = lists-refused t k o b places more (valueLists (listedNodes t k o) b) n p h in
+        rw (give-15 (z .0)) (ap saidOf e ∙ z .1)
 
-    module _ (h : ValuesRead t k o b place more (valueLists (listedNodes t k o) b) Good) where
-      abbrev read : (vss : List (List ℕ)) × (valueLists (listedNodes t k o) b ≡ some vss) × ((i : ℕ) → i < nodes t → ValuesNoted b (listFor i (listedNodes t k o) vss) (at place i) (at more i))
-      read = lists-good t k o b place more (valueLists (listedNodes t k o) b) h
+    module _ (h : ValuesRead t k o b places more (valueLists (listedNodes t k o) b) Good) where
+      abbrev read : (vss : List (List ℕ)) × (valueLists (listedNodes t k o) b ≡ some vss)
+          × ((i : ℕ) → i < nodes t → ValuesNoted b (listFor i (listedNodes t k o) vss) (at places i) (at more i))
+      read = lists-good t k o b places more (valueLists (listedNodes t k o) b) h
 
       abbrev held : ℕ → ℕ
       held i = length (m .stock i ++ listFor i (listedNodes t k o) (read .0))
 
-      pub amounts : Amounts t held kept more
+      pub amounts : Amounts t held (x .kept) more
       unfolding listedNodes
       amounts = record {
-        stock = λ i l s. sym (length-append (m .stock i) (listFor i (listedNodes t k o) (read .0)) ∙ ap₂ _+_ (sym (ready .nodes-held .stocks i l s .many)) (sym (read .2 i l .many)));
+        stock = λ i l s. sym (length-append (m .stock i) (listFor i (listedNodes t k o) (read .0)) ∙ ap₂ _+_ (sym (held-nodes (g .held) .stocks i l s .many)) (sym (read .2 i l .many)));
         none = λ i l s.
-            let e = ready .no-stock i (rw (s, lt-ltb i (nodes t) l)) in
-            let q = not-listed i (listedNodes t k o) (read .0) (λ n. never (isObjectNode (kind t i)) (ready .for-stocks i (in-keep-below (isListed t k o) (nodes t) n .1)) s) in
+            let e = g .no-stock i (rw (s, lt-ltb i (nodes t) l)) in
+            let q = not-listed i (listedNodes t k o) (read .0)
+            (λ n. never (isObjectNode (kind t i)) (g .for-stocks i (in-keep-below (isListed t k o) (nodes t) n .1)) s) in
             rw (e, q);
       }
 
-      stocks-say : all (λ i. leb (held i) (upper t i)) (below (nodes t)) ≡ false → roomIn t (then (read .0)) ≡ false
+      stocks-say : all (λ i. leb (held i) (upper t i)) (below (nodes t)) ≡ false → roomIn t (then-held (read .0)) ≡ false
       unfolding roomIn given
       stocks-say e = rw e
 
-      pub gives-16-stocks : all (λ i. leb (held i) (upper t i)) (below (nodes t)) ≡ false → Gives t old from kept b place more runs tokens (giveOf t k o fires m b) (Refused 16 0)
-      gives-16-stocks e = rw (give-16 (read .0) (read .1) (stocks-say e)) refl
+      pub gives-16-stocks : (r : GiveAnswer) → r .answer ≡ Refused 16 0 → all (λ i. leb (held i) (upper t i)) (below (nodes t)) ≡ false
+          → Gives t old b (giveOf t k o fires m b) r
+      gives-16-stocks r a e = rw (give-16 (read .0) (read .1) (stocks-say e)) (ap saidOf a)
 
       module _ (fit : all (λ i. leb (held i) (upper t i)) (below (nodes t)) ≡ true) where
-        counts-say : (c : Bool) → c ≡ all (λ e. leb (gained t fires (m .tokens) e) 255) (below (edges t)) → roomIn t (then (read .0)) ≡ c
+        counts-say : (c : Bool) → c ≡ all (λ e. leb (gained t fires (m .tokens) e) 255) (below (edges t)) → roomIn t (then-held (read .0)) ≡ c
         unfolding roomIn given
         counts-say c e = rw (fit, e)
 
-        pub gives-16-counts : Gained t (gained t fires (m .tokens)) tokens false → Gives t old from kept b place more runs tokens (giveOf t k o fires m b) (Refused 16 0)
-        gives-16-counts g = rw (give-16 (read .0) (read .1) (counts-say false (g .0))) refl
+        pub gives-16-counts : (r : GiveAnswer) → r .answer ≡ Refused 16 0 → (tokens : List ℕ) → Gained t (gained t fires (m .tokens)) tokens false
+            → Gives t old b (giveOf t k o fires m b) r
+        gives-16-counts r a tokens w = rw (give-16 (read .0) (read .1) (counts-say false (w .0))) (ap saidOf a)
 
-        becomes : EdgesHeld t (gained t fires (m .tokens)) tokens (edges t) → Becomes t (then (read .0)) old from kept b place more runs tokens
-        unfolding given
-        becomes e = record {
-          stocks = λ i l s.
-              let v = ready .nodes-held .stocks i l s in
+        module _ (good-t : GoodTable t limits) (few : nodes t ≤ 48) (u : Bytes b) {place : List ℕ} (n : Narrowed places place 48) where
+          abbrev now-held : List ℕ → Held
+          now-held tokens = record { from = x .from; kept = x .kept; place = place; more = more; runs = x .runs; tokens = tokens }
+
+          stock-now : (i : ℕ) → i < nodes t → isObjectNode (kind t i) ≡ true
+              → StockHeld (m .stock i ++ listFor i (listedNodes t k o) (read .0)) old b (at (x .from) i) (at (x .kept) i) (at place i) (at more i)
+          stock-now i l s =
               let w = read .2 i l in
-              (sym (amounts .stock i l s), gather-append four (m .stock i) (listFor i (listedNodes t k o) (read .0)) ∙ ap₂ _++_ (v .stand) (w .stand));
-          running = ready .nodes-held .running;
-          counts = e .counts;
-        }
+              let same : at place i ≡ at places i = n .same i (omega arith) (omega (arith, w .inside, values-short t k o b (read .0) few u (read .1))) in
+              record {
+                many = sym (amounts .stock i l s);
+                stand = gather-append four (m .stock i) (listFor i (listedNodes t k o) (read .0)) ∙ rw same (ap₂ _++_ (held-nodes (g .held) .stocks i l s .stand) (w .stand));
+                inside = record {
+                  few = omega (
+                    arith,
+                    amounts .stock i l s,
+                    leb-true (held i) (upper t i) (all-below (λ i. leb (held i) (upper t i)) (nodes t) fit i l),
+                    upper-fits (good-t .node i l),
+                  );
+                  in-old = g .held .stocks i l s .inside .in-old;
+                  in-extra = omega (arith, same, w .inside);
+                };
+              }
 
-        sources : GoodTable t limits → nodes t ≤ length from → nodes t ≤ length kept → nodes t ≤ length place → nodes t ≤ length more → nodes t ≤ length runs → edges t ≤ length tokens
-            → Sources t old from kept b place more runs tokens
-        sources good-t lf lk lp lm lr lt = record {
-          of-nodes = record {
-            few = λ i l s. omega (arith, amounts .stock i l s, leb-true (held i) (upper t i) (all-below (λ i. leb (held i) (upper t i)) (nodes t) fit i l), upper-fits (good-t .node i l));
-            in-old = λ i l s. ready .nodes-held .stocks i l s .inside;
-            in-extra = λ i l s. read .2 i l .inside;
-            from-all = lf;
-            kept-all = lk;
-            place-all = lp;
-            more-all = lm;
-            runs-all = lr;
-          };
-          tokens-all = lt;
-        }
+          given-held : (tokens : List ℕ) → CountsAre t (gained t fires (m .tokens)) tokens → MarkingHeld t (then-held (read .0)) old b (now-held tokens)
+          unfolding given
+          given-held tokens c = record { stocks = stock-now; running = g .held .running; counts = c }
 
-        pub gives-all : GoodTable t limits → nodes t ≤ length from → nodes t ≤ length kept → nodes t ≤ length place → nodes t ≤ length more → nodes t ≤ length runs → edges t ≤ length tokens
-            → Gained t (gained t fires (m .tokens)) tokens true → Gives t old from kept b place more runs tokens (giveOf t k o fires m b) Good
-        gives-all good-t lf lk lp lm lr lt g =
-            rw (give-all (read .0) (read .1) (counts-say true (g .0))) (refl, becomes (g .1 refl), sources good-t lf lk lp lm lr lt)
+          pub gives-all : (tokens : List ℕ) → Gained t (gained t fires (m .tokens)) tokens true
+              → Gives t old b (giveOf t k o fires m b) (record { answer = Good; held = now-held tokens })
+          gives-all tokens w = rw (give-all (read .0) (read .1) (counts-say true (w .0))) (refl, given-held tokens (w .1 refl))
 
 -- ---- the answer taken apart
-pub gives-refused : (t old from kept extra place more runs tokens : List ℕ) (a : Answer Marking) (n p : ℕ) → Gives t old from kept extra place more runs tokens a (Refused n p) → a ≡ refused n p
-gives-refused t old from kept extra place more runs tokens (refused k q) n p h = cc (h)
-gives-refused t old from kept extra place more runs tokens (good m) n p h = no-good (h .0)
+module _ (t old extra : List ℕ) (r : GiveAnswer) where
+  pub gives-refused : (a : Answer Marking) (n p : ℕ) → r .answer ≡ Refused n p → Gives t old extra a r → a ≡ refused n p
+  gives-refused (refused k q) n p e h = let z = ap saidOf (sym e) ∙ h in cc z
+  gives-refused (good m) n p e h = no-good (ap saidOf (sym e) ∙ h .0)
 
-pub gives-good : (t old from kept extra place more runs tokens : List ℕ) (a : Answer Marking) → Gives t old from kept extra place more runs tokens a Good
-    → (m : Marking) × (a ≡ good m) × Becomes t m old from kept extra place more runs tokens × Sources t old from kept extra place more runs tokens
-gives-good t old from kept extra place more runs tokens (refused k q) h = no-good (sym h)
-gives-good t old from kept extra place more runs tokens (good m) h = (m, refl, h .1, h .2)
+  pub gives-good : (a : Answer Marking) → r .answer ≡ Good → Gives t old extra a r → (m : Marking) × (a ≡ good m) × MarkingHeld t m old extra (r .held)
+  gives-good (refused k q) e h = no-good (sym (ap saidOf (sym e) ∙ h))
+  gives-good (good m) e h = (m, refl, h .1)
 
 -- what is given changes no state
 pub give-state : (t : List ℕ) (k o : ℕ) (fires : ℕ → Bool) (m : Marking) (b : List ℕ) (m′ : Marking) → giveOf t k o fires m b ≡ good m′ → m′ .ended ≡ m .ended

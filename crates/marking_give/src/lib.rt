@@ -1,26 +1,48 @@
-// Rows 15 and 16, for start and finish alike: value lists appended to nodes, and tokens from the nodes that fire. What is held is said by lent slices.
-// Functions that read a table's fields require that its bytes were read as a table.
+// Rows 15 and 16, for start and finish alike: value lists appended to nodes, and tokens from the nodes that fire. What is held is handed over and back (`Givable`,
+// `Gives`). Functions that read a table's fields require that its bytes were read as a table.
 use marking::ValuesAnswer;
 use marking::has_count;
 use marking::read_values;
+use marking_held::Held;
 use table::Table;
 ghost use mathlib.Core.Path.{_≡_};
-ghost use mathlib.Core.Bool.{Bool, _&&_};
+ghost use mathlib.Core.Bool.{_&&_};
 ghost use mathlib.Core.List.{List};
-ghost use Prim.Native.Nat.{ℕ, _+_, _≤_, _<_};
-ghost use lib.Dec.{leb, eqb};
+ghost use Prim.Native.Nat.{ℕ, _≤_, _<_};
+ghost use lib.Dec.{leb};
 ghost use lib.ListN.{length};
-ghost use Rattle.paper.specs.Lists.{all, below, oneIf};
+ghost use Rattle.paper.specs.Lists.{all, below};
 ghost use Rattle.paper.specs.Answers.{good};
-ghost use Rattle.paper.specs.Table.{nodes, source, upper, kind as kindOf};
+ghost use Rattle.paper.specs.Table.{nodes, source, upper};
 ghost use Rattle.paper.specs.Marking.{Marking, hasTokens};
 ghost use Rattle.table.specs.Reading.{Spans, tableRead};
-ghost use Rattle.marking_give.specs.Giving.{Fires, gained, Amounts, CountsHeld, Gained, giveOf, Ready, Gives};
+ghost use Rattle.marking.specs.declared.values.ValuesAnswer.the-variants.{Refused};
+ghost use Rattle.marking_held.specs.MarkingHeld.{HeldLengths};
+ghost use Rattle.marking_give.specs.Giving.{firesAs, gained, Amounts, CountsHeld, Gained, giveOf, Givable, Gives};
+
+// Which nodes have a list of values: those of a kind that belong to an owner.
+pub struct Listing {
+    pub kind: usize,
+    pub owner: usize,
+}
+
+// Which nodes hand out tokens: those of a kind, or one.
+pub enum Firing {
+    Kind(usize),
+    Node(usize),
+}
+
+// What giving answers, and what is held then.
+pub struct GiveAnswer {
+    pub answer: ValuesAnswer,
+    pub held: Held,
+}
 
 // Whether every stock fits its upper, with the values that are to be appended.
-pub fn stocks_fit(t: &[u8], table: Table, kept: &[u8], more: &[u8]) -> bool
+fn stocks_fit(t: &[u8], table: Table, kept: &[u8], more: &[u8]) -> bool
     requires { ⌜ Spans (now t) table × (table .nodes ≤ length (now kept)) × (table .nodes ≤ length (now more)) ⌝ }
-    ensures { λ r. ⌜ ((held : ℕ → ℕ) → Amounts (now (t .entry)) held (now (kept .entry)) (now (more .entry)) → r ≡ all (λ i. leb (held i) (upper (now (t .entry)) i)) (below (nodes (now (t .entry))))) ⌝ }
+    ensures { λ r. ⌜ ((held : ℕ → ℕ) → Amounts (now (t .entry)) held (now (kept .entry)) (now (more .entry))
+        → r ≡ all (λ i. leb (held i) (upper (now (t .entry)) i)) (below (nodes (now (t .entry))))) ⌝ }
 {
     let n = table.nodes;
     let mut i: usize = 0;
@@ -44,26 +66,38 @@ fn stock_fits(t: &[u8], table: Table, kept: &[u8], more: &[u8], i: usize) -> boo
     wire::wide(kept[i]) + wire::wide(more[i]) <= table.upper(t, i)
 }
 
-// Whether edge j gains a token: it has a count, and its source fires.
-fn gains(t: &[u8], table: Table, fire: &[u8], j: usize) -> bool
-    requires { ⌜ (tableRead (now t) ≡ good table) × (j < table .edges) × (table .nodes ≤ length (now fire)) ⌝ }
-    ensures { λ r. ⌜ ((fires : ℕ → Bool) → Fires (now (t .entry)) fires (now (fire .entry)) → r ≡ hasTokens (now (t .entry)) j && fires (source (now (t .entry)) j)) ⌝ }
+// Whether node i fires.
+fn fires(t: &[u8], table: Table, firing: Firing, i: usize) -> bool
+    requires { ⌜ Spans (now t) table × (i < table .nodes) ⌝ }
+    ensures { λ r. ⌜ r ≡ firesAs (now (t .entry)) firing i ⌝ }
 {
-    if !has_count(t, table, j) {
+    match firing {
+        Firing::Kind(k) => table.kind(t, i) == k,
+        Firing::Node(a) => i == a,
+    }
+}
+
+// Whether edge j gains a token: it has a count, and its source fires.
+fn gains(t: &[u8], table: Table, firing: Firing, j: usize) -> bool
+    requires { ⌜ (tableRead (now t) ≡ good table) × (j < table .edges) ⌝ }
+    ensures { λ r. ⌜ r ≡ hasTokens (now (t .entry)) j && firesAs (now (t .entry)) firing (source (now (t .entry)) j) ⌝ }
+{
+    if !fires(t, table, firing, table.source(t, j)) {
         return false;
     }
-    fire[table.source(t, j)] == 1
+    has_count(t, table, j)
 }
 
 // A further token for every edge with a count whose source fires, unless one is at 255.
-pub fn gain(t: &[u8], table: Table, fire: &[u8], tokens: &mut [u8]) -> bool
-    requires { ⌜ (tableRead (now t) ≡ good table) × (table .nodes ≤ length (now fire)) × (table .edges ≤ length (now tokens)) ⌝ }
-    ensures { λ r. ⌜ ((fires : ℕ → Bool) (held : ℕ → ℕ) → Fires (now (t .entry)) fires (now (fire .entry)) → CountsHeld (now (t .entry)) held (now (tokens .entry)) → Gained (now (t .entry)) (gained (now (t .entry)) fires held) (now (tokens .exit)) r) ⌝ }
+fn gain(t: &[u8], table: Table, firing: Firing, tokens: &mut [u8]) -> bool
+    requires { ⌜ (tableRead (now t) ≡ good table) × (table .edges ≤ length (now tokens)) ⌝ }
+    ensures { λ r. ⌜ ((held : ℕ → ℕ) → CountsHeld (now (t .entry)) held (now (tokens .entry))
+        → Gained (now (t .entry)) (gained (now (t .entry)) (firesAs (now (t .entry)) firing) held) (now (tokens .exit)) r) ⌝ }
 {
     let n = table.edges;
     let mut j: usize = 0;
     while j < n {
-        if gains(t, table, fire, j) {
+        if gains(t, table, firing, j) {
             if tokens[j] == 255 {
                 return false;
             }
@@ -74,75 +108,63 @@ pub fn gain(t: &[u8], table: Table, fire: &[u8], tokens: &mut [u8]) -> bool
     true
 }
 
-fn one_if(b: bool) -> u8
-    ensures { λ r. ⌜ r ≡ oneIf b ⌝ }
+// Nothing is given.
+fn refused(number: u8, place: u8, held: Held) -> GiveAnswer
+    ensures { λ r. ⌜ (r .answer ≡ Refused number place) × (r .held ≡ held) ⌝ }
 {
-    if b {
-        return 1;
-    }
-    0
-}
-
-// The nodes of a kind fire.
-pub fn fire_kind(t: &[u8], table: Table, kind: usize, fire: &mut [u8])
-    requires { ⌜ Spans (now t) table × (table .nodes ≤ length (now fire)) ⌝ }
-    ensures { λ _. ⌜ Fires (now (t .entry)) (λ i. eqb (kindOf (now (t .entry)) i) kind) (now (fire .exit)) ⌝ }
-{
-    let n = table.nodes;
-    let mut i: usize = 0;
-    while i < n {
-        fire[i] = one_if(table.kind(t, i) == kind);
-        i += 1;
+    GiveAnswer {
+        answer: ValuesAnswer::Refused(number, place),
+        held: held,
     }
 }
 
-// Node a fires.
-pub fn fire_node(table: Table, a: usize, fire: &mut [u8])
-    requires { ⌜ table .nodes ≤ length (now fire) ⌝ }
-    ensures { λ _. ⌜ ((t : List ℕ) → table .nodes ≡ nodes t → Fires t (λ i. eqb i a) (now (fire .exit))) ⌝ }
-{
-    let n = table.nodes;
-    let mut i: usize = 0;
-    while i < n {
-        fire[i] = one_if(i == a);
-        i += 1;
-    }
-}
-
-// The lists of the nodes of a kind and owner, and a token from each node that fires; what is held is said by the slices, before and after.
+// The lists of the nodes that have one, and a token from each node that fires. Nothing comes before.
 pub fn give(
     t: &[u8],
     table: Table,
-    kind: usize,
-    owner: usize,
-    b: &[u8],
-    fire: &[u8],
-    kept: &[u8],
-    place: &mut [usize],
-    more: &mut [u8],
-    tokens: &mut [u8],
-) -> ValuesAnswer
-    requires { ⌜ (tableRead (now t) ≡ good table) × (table .nodes ≤ length (now fire)) × (table .nodes ≤ length (now kept)) × (table .nodes ≤ length (now place)) × (table .nodes ≤ length (now more)) × (table .edges ≤ length (now tokens)) ⌝ }
-    ensures { λ r. ⌜ ((fires : ℕ → Bool) (m : Marking) (old from runs : List ℕ) → table .nodes ≤ length from → table .nodes ≤ length runs
-        → Ready (now (t .entry)) kind owner fires m old from (now (kept .entry)) runs (now (tokens .entry)) (now (fire .entry))
-        → Gives (now (t .entry)) old from (now (kept .entry)) (now (b .entry)) (now (place .exit)) (now (more .exit)) runs (now (tokens .exit)) (giveOf (now (t .entry)) kind owner fires m (now (b .entry))) r) ⌝ }
+    listing: Listing,
+    values: &[u8],
+    firing: Firing,
+    held: Held,
+) -> GiveAnswer
+    requires { ⌜ (tableRead (now t) ≡ good table) × HeldLengths held ⌝ }
+    ensures { λ r. ⌜ HeldLengths (r .held) × ((m : Marking) (old : List ℕ) → Givable (now (t .entry)) (listing .kind) (listing .owner) m old held
+        → Gives (now (t .entry)) old (now (values .entry)) (giveOf (now (t .entry)) (listing .kind) (listing .owner) (firesAs (now (t .entry)) firing) m (now (values .entry))) r) ⌝ }
 {
+    let mut places = [0usize; Table::MOST_NODES];
+    let mut more = [0u8; Table::MOST_NODES];
     if let ValuesAnswer::Refused(number, place) = read_values(
         t,
         table,
-        kind,
-        owner,
-        b,
-        place,
-        more,
+        listing.kind,
+        listing.owner,
+        values,
+        &mut places,
+        &mut more,
     ) {
-        return ValuesAnswer::Refused(number, place);
+        return refused(number, place, held);
     }
-    if !stocks_fit(t, table, kept, more) {
-        return ValuesAnswer::Refused(16, 0);
+    let kept = held.kept;
+    if !stocks_fit(t, table, &kept, &more) {
+        return refused(16, 0, held);
     }
-    if !gain(t, table, fire, tokens) {
-        return ValuesAnswer::Refused(16, 0);
+    let mut tokens = held.tokens;
+    if !gain(t, table, firing, &mut tokens) {
+        return refused(16, 0, held);
     }
-    ValuesAnswer::Good
+    let from = held.from;
+    let runs = held.runs;
+    let place = marking_held::narrow(&places);
+    let given = Held {
+        from: from,
+        kept: kept,
+        place: place,
+        more: more,
+        runs: runs,
+        tokens: tokens,
+    };
+    GiveAnswer {
+        answer: ValuesAnswer::Good,
+        held: given,
+    }
 }

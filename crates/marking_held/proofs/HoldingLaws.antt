@@ -2,8 +2,8 @@
 use mathlib.Core.Path.{_≡_, refl, sym, ap, _∙_}
 use Prim.Native.Nat.{ℕ, suc, _+_, _*_, _<_}
 use native.Mathlib.Omega.{arith}
-use mathlib.Core.Bool.{Bool, true, false, not, _&&_, cond}
-use mathlib.Core.List.{List, [], _∷_, _++_}
+use mathlib.Core.Bool.{Bool, true, false, _&&_, cond}
+use mathlib.Core.List.{List, _∷_, _++_}
 use mathlib.Core.Option.{Option, none, some}
 use lib.Dec.{ltb, eqb}
 use lib.ListN.{length, drop, set, length-drop, length-append}
@@ -13,7 +13,6 @@ use Rattle.paper.specs.Lists.{at, gather, oneIf}
 use Rattle.paper.specs.Bytes.{four, listed}
 use Rattle.paper.specs.Table.{nodes, edges, kind, isObjectNode, isAction}
 use Rattle.paper.specs.Marking.{Marking, counted}
-use Rattle.paper.specs.Operations.{idled}
 use Rattle.paper.proofs.Bools.{iff}
 use Rattle.paper.proofs.Bytes.{length-listed}
 use Rattle.paper.proofs.Lengths.{drop-head}
@@ -75,22 +74,6 @@ counts-more {t} {m} tokens j x l lt h s f = record {
 }
 
 -- ---- an action idle again
-emptied : (b vs : List ℕ) (p n x : ℕ) (c : Bool) → ValuesNoted b vs p n → x ≡ cond c 0 n → ValuesNoted b (cond c [] vs) p x
-emptied b vs p n x true v e = rw e (record { many = refl; stand = refl; inside = omega (arith, v .inside) })
-emptied b vs p n x false v e = rw e v
-
-pub idle-held : (t : List ℕ) (a : ℕ) (m : Marking) (b from kept₀ kept runs : List ℕ) (n : ℕ) → a < length runs → NodesHeld t m b from kept₀ runs n
-    → ((k : ℕ) → k < n → at kept k ≡ cond (isListed t 3 a k) 0 (at kept₀ k)) → NodesHeld t (idled t a m) b from kept (set runs a 0) n
-unfolding idled
-idle-held t a m b from kept₀ kept runs n l h e = record {
-  stocks = λ i k o. emptied b (m .stock i) (at from i) (at kept₀ i) (at kept i) (isListed t 3 a i) (h .stocks i k o) (e i k);
-  running = λ i k r. by i (eqb i a) refl (h .running i k r);
-}
-  where
-    by : (i : ℕ) (c : Bool) → eqb i a ≡ c → at runs i ≡ oneIf (m .runs i) → at (set runs a 0) i ≡ oneIf (not c && m .runs i)
-    by i true q r = rw (eqb-true i a q) (getD-set-same runs a 0 0 l)
-    by i false q r = let d : i ≡ a → ⊥ = eqb-false i a q in getD-set-other runs a i 0 0 d ∙ r
-
 -- the pins below i are emptied
 pub some-emptied : (t : List ℕ) (a i : ℕ) (kept₀ kept : List ℕ) → i < length kept → (c : Bool) → isListed t 3 a i ≡ c
     → ((k : ℕ) → at kept k ≡ cond (ltb k i && isListed t 3 a k) 0 (at kept₀ k))

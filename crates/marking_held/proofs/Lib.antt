@@ -1,4 +1,5 @@
 -- Laws of a marking that changes.
 pub mod Fillings
 pub mod HoldingLaws
+pub mod HeldLaws
 pub mod TakenUp

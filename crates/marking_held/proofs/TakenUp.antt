@@ -16,7 +16,7 @@ use Rattle.table.proofs.Reading.{read-spans, most-nodes, most-edges}
 use Rattle.marking.specs.declared.reading.MarkingAnswer.{MarkingAnswer}
 use Rattle.marking.specs.declared.reading.MarkingAnswer.the-variants.{Live, Ended, Refused}
 use Rattle.marking_held.specs.Holding.{HeldRead}
-use Rattle.marking_held.specs.declared.Held.{Held}
+use Rattle.marking_held.specs.declared.Taken.{Taken as Held}
 use Rattle.marking_held.specs.TakenUp.{held, HeldFull, HeldRoom, LiveHeld}
 
 module _ (t b from kept runs tokens : List ℕ) where

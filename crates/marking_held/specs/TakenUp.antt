@@ -1,4 +1,5 @@
--- A marking that was read and taken up into lent slices. Assumes nothing.
+-- A marking that was read and taken up into lent slices: an older form of `Held`, of which nothing comes, for the crates that still speak of it.
+-- Assumes nothing.
 use Prim.Native.Nat.{ℕ, _≤_}
 use mathlib.Core.Path.{_≡_}
 use mathlib.Core.Bool.{false}
@@ -7,7 +8,7 @@ use mathlib.Core.Option.{some}
 use lib.ListN.{length}
 use Rattle.paper.specs.Table.{nodes, edges}
 use Rattle.paper.specs.Marking.{Marking, marking}
-use Rattle.marking_held.specs.declared.Held.{Held}
+use Rattle.marking_held.specs.declared.Taken.{Taken as Held}
 use Rattle.marking_held.specs.Holding.{NodesHeld, EdgesHeld}
 
 -- four slices lent for a marking, as what it is held in

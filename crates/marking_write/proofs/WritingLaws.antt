@@ -1,99 +1,117 @@
 -- Laws of writing a marking: what fields take, how a run of fields grows by one, and that the fields' bytes are the marking's. Assumes nothing.
 use mathlib.Core.Path.{_≡_, refl, sym, ap, ap₂, _∙_}
-use Prim.Native.Nat.{ℕ, _+_, _-_, _*_, _≤_, _<_}
+use Prim.Native.Nat.{ℕ, suc, _+_, _-_, _*_, _≤_, _<_}
 use native.Mathlib.Omega.{arith}
+use native.Mathlib.Nat.{add-zero, add-suc, suc-add}
 use native.Mathlib.Numerals.{add-one}
 use mathlib.Core.Bool.{Bool, true, false, cond}
 use mathlib.Core.Logic.{⊎-elim}
 use mathlib.Core.List.{List, [], _∷_, _++_, append-nil}
 use lib.ListN.{length, take, drop, set, length-append}
-use lib.Seq.{sets}
+use lib.Seq.{sets, set-comm}
 use Rattle.paper.specs.Lists.{at, below, gather, oneIf}
 use Rattle.paper.specs.Bytes.{two, listed}
 use Rattle.paper.specs.Table.{nodes, edges, kind, isObjectNode, isAction}
 use Rattle.paper.specs.Marking.{Marking, stockOf, runsOf, tokensOf, written, counted, nodeFields, layout, encode}
 use Rattle.paper.proofs.Lengths.{gather-append, gather-gather}
-use Rattle.paper.proofs.Bytes.{length-listed}
 use Rattle.paper.proofs.Bools.{true-or-false}
 use Rattle.wire.specs.Totals.{total}
 use Rattle.wire.proofs.Laws.{sets-then, sets-front}
-use Rattle.wire.proofs.Runs.{gather-same, length-total, part-length}
+use Rattle.wire.proofs.Runs.{gather-same, length-total, part-length, run-more}
 use Rattle.marking.specs.Reading.{edgeFields}
-use Rattle.marking_write.specs.Writing.{Becomes, NodeSources, nodeSize, edgeSize, sizeOf, stockBytes, nodeBytes, edgeBytes}
+use Rattle.marking_held.specs.declared.Held.{Held}
+use Rattle.marking_held.specs.MarkingHeld.{Narrowed, MarkingHeld, HeldInside}
+use Rattle.marking_write.specs.declared.NodeHeld.{NodeHeld}
+use Rattle.marking_write.specs.Writing.{nodeAt, NodeInside, sizeAs, nodeSize, edgeSize, sizeOf, stockBytes, fieldBytes, nodeBytes, edgeBytes, Becomes, Sources}
 use Rattle.marking.proofs.Laws.{layout-is}
 
 -- ---- a stock
-module _ (old : List ℕ) (from kept : ℕ) (extra : List ℕ) (place more : ℕ) (h : from + 4 * kept ≤ length old) where
-  pub stock-is : (d : List ℕ) (to p : ℕ) → p ≡ to + 1 + 4 * kept
-      → sets (sets (set d to (kept + more)) (to + 1) (take (4 * kept) (drop from old))) p (take (4 * more) (drop place extra))
-      ≡ sets d to (stockBytes old from kept extra place more)
+module _ (old extra : List ℕ) (h : NodeHeld) (s : NodeInside old extra h) where
+  pub stock-is : (d : List ℕ) (to p : ℕ) → p ≡ to + 1 + 4 * h .kept
+      → sets (sets (set d to (h .kept + h .more)) (to + 1) (take (4 * h .kept) (drop (h .from) old))) p (take (4 * h .more) (drop (h .place) extra))
+      ≡ sets d to (stockBytes old extra h)
   unfolding stockBytes
   stock-is d to p e =
-      sets-then (take (4 * kept) (drop from old)) (take (4 * more) (drop place extra)) (set d to (kept + more)) (to + 1) p (omega (arith, part-length old from (4 * kept) h))
+      sets-then (take (4 * h .kept) (drop (h .from) old)) (take (4 * h .more) (drop (h .place) extra)) (set d to (h .kept + h .more)) (to + 1) p
+      (omega (arith, part-length old (h .from) (4 * h .kept) (s .in-old)))
       ∙ rw (add-one to)
 
-  pub stock-written : (d : List ℕ) (to : ℕ) {e : List ℕ} {p k m : ℕ} → k ≡ kept → m ≡ more → p ≡ to + 1 + 4 * kept → e ≡ sets (set d to (kept + more)) (to + 1) (take (4 * k) (drop from old))
-      → sets e p (take (4 * m) (drop place extra)) ≡ sets d to (stockBytes old from kept extra place more)
-  stock-written d to {p = p} ek em ep h = rw (h, em, ek) (stock-is d to p ep)
+  -- as the two copies leave it
+  pub stock-written : (d : List ℕ) (to : ℕ) {e after : List ℕ} {p f q k m : ℕ} → f ≡ h .from → q ≡ h .place → k ≡ 4 * h .kept → m ≡ 4 * h .more
+      → p ≡ to + 1 + 4 * h .kept → e ≡ sets (set d to (h .kept + h .more)) (to + 1) (take k (drop f old)) → after ≡ sets e p (take m (drop q extra))
+      → after ≡ sets d to (stockBytes old extra h)
+  stock-written d to {p = p} ef eq ek em ep g a = a ∙ rw (g, ef, eq, em, ek) (stock-is d to p ep)
 
-  length-stock : place + 4 * more ≤ length extra → length (stockBytes old from kept extra place more) ≡ 1 + 4 * (kept + more)
+  length-stock : length (stockBytes old extra h) ≡ 1 + 4 * (h .kept + h .more)
   unfolding stockBytes
-  length-stock k =
+  length-stock =
       omega (
         arith,
-        length-append (take (4 * kept) (drop from old)) (take (4 * more) (drop place extra)),
-        part-length old from (4 * kept) h,
-        part-length extra place (4 * more) k,
+        length-append (take (4 * h .kept) (drop (h .from) old)) (take (4 * h .more) (drop (h .place) extra)),
+        part-length old (h .from) (4 * h .kept) (s .in-old),
+        part-length extra (h .place) (4 * h .more) (s .in-extra),
       )
 
--- ---- the field of node i, by the node's kind
-module _ (t kept more : List ℕ) (i : ℕ) where
-  pub stock-size : isObjectNode (kind t i) ≡ true → nodeSize t kept more i ≡ 1 + 4 * (at kept i + at more i)
-  unfolding nodeSize
+-- ---- the field of a node of kind k
+module _ (k n : ℕ) where
+  pub stock-size : isObjectNode k ≡ true → sizeAs k n ≡ 1 + 4 * n
+  unfolding sizeAs
   stock-size o = rw o
 
-  module _ (o : isObjectNode (kind t i) ≡ false) where
-    pub runs-size : isAction (kind t i) ≡ true → nodeSize t kept more i ≡ 1
-    unfolding nodeSize
+  module _ (o : isObjectNode k ≡ false) where
+    pub runs-size : isAction k ≡ true → sizeAs k n ≡ 1
+    unfolding sizeAs
     runs-size a = rw (o, a)
 
-    pub no-size : isAction (kind t i) ≡ false → nodeSize t kept more i ≡ 0
-    unfolding nodeSize
+    pub no-size : isAction k ≡ false → sizeAs k n ≡ 0
+    unfolding sizeAs
     no-size a = rw (o, a)
 
-module _ (t old from kept extra place more runs : List ℕ) where
-  abbrev bytes : ℕ → List ℕ
-  bytes = nodeBytes t old from kept extra place more runs
+-- what is read of node i says its size
+pub size-same : (t kept more : List ℕ) (i : ℕ) {k v w r : ℕ} → k ≡ kind t i → v ≡ at kept i → w ≡ at more i → r ≡ sizeAs k (v + w) → r ≡ nodeSize t kept more i
+size-same t kept more i ek ev ew e = e ∙ rw (ek, ev, ew)
 
-  module _ (i : ℕ) where
-    pub stock-bytes : isObjectNode (kind t i) ≡ true → bytes i ≡ stockBytes old (at from i) (at kept i) extra (at place i) (at more i)
-    unfolding nodeBytes
-    stock-bytes o = rw o
+module _ (k : ℕ) (old extra : List ℕ) (h : NodeHeld) where
+  pub stock-bytes : isObjectNode k ≡ true → fieldBytes k old extra h ≡ stockBytes old extra h
+  unfolding fieldBytes
+  stock-bytes o = rw o
 
-    module _ (o : isObjectNode (kind t i) ≡ false) where
-      pub runs-bytes : isAction (kind t i) ≡ true → bytes i ≡ at runs i ∷ []
-      unfolding nodeBytes
-      runs-bytes a = rw (o, a)
+  module _ (o : isObjectNode k ≡ false) where
+    pub runs-bytes : isAction k ≡ true → fieldBytes k old extra h ≡ h .runs ∷ []
+    unfolding fieldBytes
+    runs-bytes a = rw (o, a)
 
-      pub no-bytes : isAction (kind t i) ≡ false → bytes i ≡ []
-      unfolding nodeBytes
-      no-bytes a = rw (o, a)
+    pub no-bytes : isAction k ≡ false → fieldBytes k old extra h ≡ []
+    unfolding fieldBytes
+    no-bytes a = rw (o, a)
 
-  pub length-node : NodeSources t old from kept extra place more runs → (i : ℕ) → i < nodes t → length (bytes i) ≡ nodeSize t kept more i
-  length-node s i l = ⊎-elim stock other (true-or-false (isObjectNode (kind t i)))
+  length-field : (isObjectNode k ≡ true → NodeInside old extra h) → length (fieldBytes k old extra h) ≡ sizeAs k (h .kept + h .more)
+  length-field s = ⊎-elim stock other (true-or-false (isObjectNode k))
     where
-      stock : isObjectNode (kind t i) ≡ true → length (bytes i) ≡ nodeSize t kept more i
-      stock o =
-          ap length (stock-bytes i o)
-          ∙ length-stock old (at from i) (at kept i) extra (at place i) (at more i) (s .in-old i l o) (s .in-extra i l o)
-          ∙ sym (stock-size t kept more i o)
+      stock : isObjectNode k ≡ true → length (fieldBytes k old extra h) ≡ sizeAs k (h .kept + h .more)
+      stock o = ap length (stock-bytes o) ∙ length-stock old extra h (s o) ∙ sym (stock-size k (h .kept + h .more) o)
 
-      other : isObjectNode (kind t i) ≡ false → length (bytes i) ≡ nodeSize t kept more i
+      other : isObjectNode k ≡ false → length (fieldBytes k old extra h) ≡ sizeAs k (h .kept + h .more)
       other o =
           ⊎-elim
-          (λ a. ap length (runs-bytes i o a) ∙ sym (runs-size t kept more i o a))
-          (λ a. ap length (no-bytes i o a) ∙ sym (no-size t kept more i o a))
-          (true-or-false (isAction (kind t i)))
+          (λ a. ap length (runs-bytes o a) ∙ sym (runs-size k (h .kept + h .more) o a))
+          (λ a. ap length (no-bytes o a) ∙ sym (no-size k (h .kept + h .more) o a))
+          (true-or-false (isAction k))
+
+pub length-node : (t old extra : List ℕ) (x : Held) → HeldInside t old extra x → (i : ℕ) → i < nodes t
+    → length (nodeBytes t old extra x i) ≡ nodeSize t (x .kept) (x .more) i
+length-node t old extra x s i l = length-field (kind t i) old extra (nodeAt x i) (s .stock i l)
+
+-- node i is written next, as what was read of it says
+module _ (t old extra : List ℕ) (x : Held) (s : HeldInside t old extra x) (i : ℕ) (l : i < nodes t) {k : ℕ} (e : k ≡ kind t i) where
+  pub node-inside : isObjectNode k ≡ true → NodeInside old extra (nodeAt x i)
+  node-inside o = s .stock i l (ap isObjectNode (sym e) ∙ o)
+
+  pub node-run : (d : List ℕ) {out after : List ℕ} {to : ℕ} → to ≡ 4 + total (nodeSize t (x .kept) (x .more)) i
+      → out ≡ sets d 4 (gather (nodeBytes t old extra x) (below i))
+      → after ≡ sets out to (fieldBytes k old extra (nodeAt x i)) → after ≡ sets d 4 (gather (nodeBytes t old extra x) (below (i + 1)))
+  node-run d {to = to} q o a =
+      a ∙ rw (e, o) (run-more (nodeBytes t old extra x) (nodeSize t (x .kept) (x .more)) d 4 to i (λ n h. length-node t old extra x s n (omega arith)) q)
 
 -- ---- the count of edge j
 module _ (t : List ℕ) (j : ℕ) where
@@ -121,42 +139,53 @@ module _ (t tokens : List ℕ) (j : ℕ) where
       (λ c. ap length (uncounted-bytes c) ∙ sym (uncounted-size t j c))
       (true-or-false (counted t j))
 
+-- the count of edge j is written next
+pub edge-run : (t tokens d : List ℕ) (start j : ℕ) {out after : List ℕ} {to : ℕ} → to ≡ start + total (edgeSize t) j
+    → out ≡ sets d start (gather (edgeBytes t tokens) (below j)) → after ≡ sets out to (edgeBytes t tokens j)
+    → after ≡ sets d start (gather (edgeBytes t tokens) (below (j + 1)))
+edge-run t tokens d start j {to = to} q o a = a ∙ rw o (run-more (edgeBytes t tokens) (edgeSize t) d start to j (λ k h. length-edge t tokens k) q)
+
 -- ---- the marking's own bytes
-module _ {t : List ℕ} {m : Marking} {old from kept extra place more runs tokens : List ℕ} (b : Becomes t m old from kept extra place more runs tokens) where
-  node-is : (i : ℕ) → i < nodes t → gather (written m) (nodeFields t i) ≡ nodeBytes t old from kept extra place more runs i
-  unfolding written nodeBytes stockBytes
+-- a run that is stored in front of another
+set-behind : (xs d : List ℕ) (i p x : ℕ) → i < p → set (sets d p xs) i x ≡ sets (set d i x) p xs
+set-behind [] d i p x l = refl
+set-behind (y ∷ ys) d i p x l =
+    let n : p ≡ i → ⊥ = λ e. omega arith in
+    set-behind ys (set d p y) i (suc p) x (omega arith) ∙ ap (λ (z : List ℕ). sets z (suc p) ys) (set-comm d p i y x n)
+
+sets-before : (xs ys d : List ℕ) (i : ℕ) → sets (sets d (i + length xs) ys) i xs ≡ sets d i (xs ++ ys)
+sets-before [] ys d i = rw add-zero
+sets-before (x ∷ xs) ys d i =
+    ap (λ (z : List ℕ). sets z (suc i) xs) (set-behind ys d i (i + suc (length xs)) x (omega arith))
+    ∙ rw (add-suc, ← suc-add) (sets-before xs ys (set d i x) (suc i))
+
+module _ {t : List ℕ} {m : Marking} {old extra : List ℕ} {x : Held} (b : MarkingHeld t m old extra x) where
+  node-is : (i : ℕ) → i < nodes t → gather (written m) (nodeFields t i) ≡ nodeBytes t old extra x i
+  unfolding written fieldBytes stockBytes
   node-is i l = by (isObjectNode (kind t i)) (isAction (kind t i)) refl refl
     where
       by : (o a : Bool) → isObjectNode (kind t i) ≡ o → isAction (kind t i) ≡ a
-          → gather (written m) (cond o (stockOf i ∷ []) (cond a (runsOf i ∷ []) []))
-          ≡ cond o (stockBytes old (at from i) (at kept i) extra (at place i) (at more i)) (cond a (at runs i ∷ []) [])
-      by true a e f = let s = b .stocks i l e in append-nil (listed (m .stock i)) ∙ ap₂ (λ (n : ℕ) (l : List ℕ). n ∷ l) (s .0) (s .1)
+          → gather (written m) (cond o (stockOf i ∷ []) (cond a (runsOf i ∷ []) [])) ≡ cond o (stockBytes old extra (nodeAt x i)) (cond a (at (x .runs) i ∷ []) [])
+      by true a e f = let s = b .stocks i l e in append-nil (listed (m .stock i)) ∙ ap₂ (λ (n : ℕ) (l : List ℕ). n ∷ l) (s .many) (s .stand)
       by false true e f = ap (λ (n : ℕ). n ∷ []) (sym (b .running i l f))
       by false false e f = refl
 
-  edge-is : (j : ℕ) → j < edges t → gather (written m) (edgeFields t j) ≡ edgeBytes t tokens j
+  edge-is : (j : ℕ) → j < edges t → gather (written m) (edgeFields t j) ≡ edgeBytes t (x .tokens) j
   unfolding written edgeBytes
   edge-is j l = by (counted t j) refl
     where
-      by : (c : Bool) → counted t j ≡ c → gather (written m) (cond c (tokensOf j ∷ []) []) ≡ cond c (at tokens j ∷ []) []
+      by : (c : Bool) → counted t j ≡ c → gather (written m) (cond c (tokensOf j ∷ []) []) ≡ cond c (at (x .tokens) j ∷ []) []
       by true e = ap (λ (n : ℕ). n ∷ []) (sym (b .counts j l e))
       by false e = refl
 
-  node-takes : (i : ℕ) → i < nodes t → length (gather (written m) (nodeFields t i)) ≡ nodeSize t kept more i
-  unfolding written nodeSize
-  node-takes i l = by (isObjectNode (kind t i)) (isAction (kind t i)) refl
-    where
-      by : (o a : Bool) → isObjectNode (kind t i) ≡ o
-          → length (gather (written m) (cond o (stockOf i ∷ []) (cond a (runsOf i ∷ []) []))) ≡ cond o (1 + 4 * (at kept i + at more i)) (oneIf a)
-      by true a e = omega (arith, ap length (append-nil (listed (m .stock i))), length-listed (m .stock i), b .stocks i l e .0)
-      by false true e = refl
-      by false false e = refl
-
   abbrev nodePart : List ℕ
-  nodePart = gather (nodeBytes t old from kept extra place more runs) (below (nodes t))
+  nodePart = gather (nodeBytes t old extra x) (below (nodes t))
 
   abbrev edgePart : List ℕ
-  edgePart = gather (edgeBytes t tokens) (below (edges t))
+  edgePart = gather (edgeBytes t (x .tokens)) (below (edges t))
+
+  node-length : length nodePart ≡ total (nodeSize t (x .kept) (x .more)) (nodes t)
+  node-length = length-total _ _ (nodes t) (λ i l. length-field (kind t i) old extra (nodeAt x i) (λ o. b .stocks i l o .inside))
 
   parts-are : gather (written m) (layout t) ≡ nodePart ++ edgePart
   parts-are =
@@ -167,24 +196,40 @@ module _ {t : List ℕ} {m : Marking} {old from kept extra place more runs token
       (gather-gather (written m) (edgeFields t) (below (edges t)) ∙ gather-same _ _ (edges t) edge-is)
 
   -- the size is that of the marking's bytes
-  pub size-is : length (encode t m) ≡ sizeOf t kept more
+  pub size-is : length (encode t m) ≡ sizeOf t (x .kept) (x .more)
   unfolding encode sizeOf
   size-is =
-      let n : length nodePart ≡ total (nodeSize t kept more) (nodes t) = length-total _ _ (nodes t) (λ i l. ap length (sym (node-is i l)) ∙ node-takes i l) in
-      let e : length edgePart ≡ total (edgeSize t) (edges t) = length-total _ _ (edges t) (λ j l. length-edge t tokens j) in
-      omega (arith, ap length parts-are, length-append nodePart edgePart)
+      let e : length edgePart ≡ total (edgeSize t) (edges t) = length-total _ _ (edges t) (λ j l. length-edge t (x .tokens) j) in
+      omega (arith, node-length, ap length parts-are, length-append nodePart edgePart)
 
-  -- the head, the nodes' fields and the edges' counts, each behind the other, are the marking at the front
-  pub write-is : (d : List ℕ) (len state p : ℕ) → NodeSources t old from kept extra place more runs → len ≡ sizeOf t kept more
-      → p ≡ 4 + total (nodeSize t kept more) (nodes t) → state ≡ oneIf (m .ended) → sizeOf t kept more ≤ length d
-      → sets (sets (sets d 0 (two (len - 2) ++ (1 ∷ state ∷ []))) 4 nodePart) p edgePart ≡ encode t m ++ drop (length (encode t m)) d
+  -- the nodes' fields, the edges' counts behind them and the head in front are the marking at the front
+  pub write-is : (d : List ℕ) {of-nodes of-edges after : List ℕ} {len state p : ℕ} → len ≡ sizeOf t (x .kept) (x .more)
+      → p ≡ 4 + total (nodeSize t (x .kept) (x .more)) (nodes t) → state ≡ oneIf (m .ended) → len ≤ length d → of-nodes ≡ sets d 4 nodePart
+      → of-edges ≡ sets of-nodes p edgePart → after ≡ sets of-edges 0 (two (len - 2) ++ (1 ∷ state ∷ [])) → after ≡ encode t m ++ drop (length (encode t m)) d
   unfolding encode
-  write-is d len state p s e q f room =
+  write-is d {len = len} {state = state} {p = p} e q f room n g a =
       let head = two (len - 2) ++ (1 ∷ state ∷ []) in
-      let n : length nodePart ≡ total (nodeSize t kept more) (nodes t) = length-total _ _ (nodes t) (length-node t old from kept extra place more runs s) in
       let k : len - 2 ≡ length (1 ∷ oneIf (m .ended) ∷ gather (written m) (layout t)) = omega (arith, size-is) in
-      let w : (head ++ nodePart) ++ edgePart ≡ encode t m = rw (k, f, ← parts-are) in
-      ap (λ (l : List ℕ). sets l p edgePart) (sets-then head nodePart d 0 4 refl)
-      ∙ sets-then (head ++ nodePart) edgePart d 0 p (omega (arith, length-append head nodePart))
+      let w : head ++ (nodePart ++ edgePart) ≡ encode t m = rw (k, f, ← parts-are) in
+      a
+      ∙ ap (λ (l : List ℕ). sets l 0 head) (g ∙ ap (λ (l : List ℕ). sets l p edgePart) n ∙ sets-then nodePart edgePart d 4 p (omega (arith, node-length)))
+      ∙ sets-before head (nodePart ++ edgePart) d 0
       ∙ ap (sets d 0) w
       ∙ sets-front (encode t m) d (omega (arith, size-is))
+
+-- ---- what the older form says
+-- what the slices describe, held: every place in these bytes is one that two bytes say
+pub slices-held : {t : List ℕ} {m : Marking} {old from kept extra place more runs tokens : List ℕ} → Becomes t m old from kept extra place more runs tokens
+    → Sources t old from kept extra place more runs tokens → nodes t ≤ 48 → length old < 65536 → length extra < 65536
+    → {from′ place′ : List ℕ} → Narrowed from from′ 48 → Narrowed place place′ 48
+    → MarkingHeld t m old extra (record { from = from′; kept = kept; place = place′; more = more; runs = runs; tokens = tokens })
+slices-held b s n u v f p = record {
+  stocks = λ i l o.
+      let a = s .of-nodes .in-old i l o in
+      let c = s .of-nodes .in-extra i l o in
+      let ef = f .same i (omega arith) (omega arith) in
+      let ep = p .same i (omega arith) (omega arith) in
+      rw (ef, ep) (record { many = b .stocks i l o .0; stand = b .stocks i l o .1; inside = record { few = s .of-nodes .few i l o; in-old = a; in-extra = c } });
+  running = b .running;
+  counts = b .counts;
+}

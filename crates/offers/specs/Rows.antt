@@ -7,15 +7,19 @@ use mathlib.Core.List.{List, [], _∷_, _++_}
 use mathlib.Core.Option.{Option, none, some}
 use lib.Dec.{eqb, leb}
 use lib.ListN.{length, getD}
-use Rattle.paper.specs.Lists.{all, each, gather, keep, below, within, _⇒_}
+use Rattle.paper.specs.Lists.{all, each, gather, keep, within, _⇒_}
 use Rattle.paper.specs.Limits.{limits}
 use Rattle.paper.specs.Table.{edges, source, target, kind, into, isControlNode}
 use Rattle.paper.specs.Offers.{Offer, first, over, with, lastEdge, value, paths, makers, origins}
 use Rattle.paper.proofs.Members.{In, Distinct}
 use Rattle.paper.proofs.Competing.{StockFirst}
+use Rattle.table.specs.Incoming.{ListFrom, Forward}
 use Rattle.words.specs.Clash.{hit}
 use Rattle.offers.specs.Sets.{nth, Means, Foes, Marks}
 use Rattle.offers.specs.declared.Gate.{Gate}
+use Rattle.offers.specs.declared.Onto.{Onto}
+use Rattle.offers.specs.declared.Worth.{Worth}
+use Rattle.offers.specs.declared.Start.{Start}
 
 -- ---- rows
 -- one row: last edge, the node it leaves, whether there is a value and which, the number of paths, and three words
@@ -144,21 +148,21 @@ under (over o e) = makers o
 under (with o p) = []
 
 -- what is known of an offer x before it is put at the end of ts: its row, but with the makers m and the foes f of what it was made of
-pub record Ready (t : List ℕ) (r : Rows) (ts : List Offer) (x : Offer) (l n k h v p a m f : ℕ) : Type 0 where
+pub record Ready (t : List ℕ) (r : Rows) (ts : List Offer) (x : Offer) (o : Onto) (u : Worth) (p a m f : ℕ) : Type 0 where
   pub offer : isOffer x ≡ true
   pub fresh : In x ts → ⊥
-  pub last-is : l ≡ lastEdge x
-  pub node-is : n ≡ source t (lastEdge x)
-  pub kind-is : k ≡ kind t n
+  pub last-is : o .edge ≡ lastEdge x
+  pub node-is : o .node ≡ source t (lastEdge x)
+  pub kind-is : o .kind ≡ kind t (o .node)
   pub stock-first : StockFirst t x
-  pub value-is : valueOf h v ≡ value x
+  pub value-is : valueOf (u .has) (u .value) ≡ value x
   pub paths-are : p ≡ length (paths x)
   pub few : length (paths x) ≤ limits .mostPaths
   pub parents-are : Means ts a (origins x)
   pub makers-are : Means ts m (under x)
   pub foes-are : Foes t ts f m
-  pub narrow : Narrow (entryOf l n h v p a m f)
-  pub trail : Trail r l (paths x)
+  pub narrow : Narrow (entryOf (o .edge) (o .node) (u .has) (u .value) p a m f)
+  pub trail : Trail r (o .edge) (paths x)
 
 -- the first two sizes of row 8
 unfoldable pub fine : List Offer → Bool
@@ -186,41 +190,55 @@ pub record Led (m m' : List ℕ) (c at j n : ℕ) : Type 0 where
   pub old : (x : ℕ) → x < 16 * c + 8 + at → getD m' x 0 ≡ getD m x 0
   pub new : (k : ℕ) → k < n → at + k < 8 → getD m' (16 * c + 8 + (at + k)) 0 ≡ 8 * j + k + 1
 
--- edge e leaves the control node n, of kind k
-pub record Leaves (t : List ℕ) (e n k : ℕ) : Type 0 where
-  pub node-is : n ≡ source t e
-  pub kind-is : k ≡ kind t n
-  pub control : isControlNode (kind t (source t e)) ≡ true
+-- the node is that which the edge leaves, of its kind
+pub record Names (t : List ℕ) (o : Onto) : Type 0 where
+  pub node-is : o .node ≡ source t (o .edge)
+  pub kind-is : o .kind ≡ kind t (o .node)
 
--- of xs, in ts from a to b, those that are let over e are to be extended over it; it leaves node n of kind k
-pub record Ext (t : List ℕ) (r : Rows) (ts xs : List Offer) (a b e n k : ℕ) (lets : Option ℕ → Bool) : Type 0 where
+-- the edge leaves a control node
+pub record Leaves (t : List ℕ) (o : Onto) : Type 0 where
+  pub names : Names t o
+  pub control : isControlNode (kind t (source t (o .edge))) ≡ true
+
+-- of xs, in ts from a to b, those that are let over the edge are to be extended
+pub record Ext (t : List ℕ) (r : Rows) (ts xs : List Offer) (a b : ℕ) (o : Onto) (lets : Option ℕ → Bool) : Type 0 where
   pub holds-ts : Holds t r ts
   pub seg : Seg ts a b xs
-  pub distinct : Distinct (ts ++ overs e (letOver lets xs))
-  pub leaves : Leaves t e n k
+  pub distinct : Distinct (ts ++ overs (o .edge) (letOver lets xs))
+  pub leaves : Leaves t o
 
 -- every edge's part of a list of c offers
 abbrev pub Ranges : List ℕ → List ℕ → ℕ → Type 0
 Ranges a b c = (j : ℕ) → (getD a j 0 ≤ getD b j 0) × (getD b j 0 ≤ c)
 
--- the incoming edges below j of node s
-unfoldable pub upto : List ℕ → ℕ → ℕ → List ℕ
-upto t s j = keep (λ i. eqb (target t i) s) (below j)
+-- c rows in the cells m can be added to, and a and b have every edge's part of them
+pub record Space (m a b : List ℕ) (c : ℕ) : Type 0 where
+  pub few : c ≤ limits .mostOffers
+  pub cells : 1024 ≤ length m
+  pub parts : Ranges a b c
+  pub lows : limits .mostEdges ≤ length a
+  pub highs : limits .mostEdges ≤ length b
 
--- of the offers on all incoming edges of s, those that are let over e are to be extended over it
-pub record Pass (t : List ℕ) (r : Rows) (ts : List Offer) (on : ℕ → List Offer) (a b : List ℕ) (s e k : ℕ) (lets : Option ℕ → Bool) : Type 0 where
+-- the list of the edges into node s can be gone through
+pub record Feeds (first next : List ℕ) (s : ℕ) : Type 0 where
+  pub listed : s < length first
+  pub forward : Forward next
+  pub nexts : limits .mostEdges ≤ length next
+
+-- of the offers on all edges into the node, those that are let over the edge are to be extended
+pub record Pass (t : List ℕ) (r : Rows) (ts : List Offer) (on : ℕ → List Offer) (first next a b : List ℕ) (o : Onto) (lets : Option ℕ → Bool) : Type 0 where
   pub holds-ts : Holds t r ts
-  pub segs : (j : ℕ) → j < edges t → target t j ≡ s → Seg ts (getD a j 0) (getD b j 0) (on j)
-  pub distinct : Distinct (ts ++ overs e (letOver lets (gather on (into t s))))
-  pub leaves : Leaves t e s k
+  pub list : ListFrom next (getD first (o .node) 0) (into t (o .node))
+  pub segs : (j : ℕ) → j < edges t → target t j ≡ o .node → Seg ts (getD a j 0) (getD b j 0) (on j)
+  pub distinct : Distinct (ts ++ overs (o .edge) (letOver lets (gather on (into t (o .node)))))
+  pub leaves : Leaves t o
 
 -- a first offer on e, as the caller has read it: 0 none, 1 a token, 2 the value v
 abbrev pub startOf : ℕ → ℕ → ℕ → List Offer
 startOf e c v = cond (eqb c 0) [] (first e (valueOf (c - 1) v) ∷ [])
 
--- it is to be put behind ts, if it is let over e, which leaves node s of kind k
-pub record Begin (t : List ℕ) (r : Rows) (ts : List Offer) (e s k c v : ℕ) (lets : Option ℕ → Bool) : Type 0 where
+-- it is to be put behind ts, if it is let over the edge
+pub record Begin (t : List ℕ) (r : Rows) (ts : List Offer) (o : Onto) (s : Start) (lets : Option ℕ → Bool) : Type 0 where
   pub holds-ts : Holds t r ts
-  pub distinct : Distinct (ts ++ letOver lets (startOf e c v))
-  pub node-is : s ≡ source t e
-  pub kind-is : k ≡ kind t s
+  pub distinct : Distinct (ts ++ letOver lets (startOf (o .edge) (s .code) (s .value)))
+  pub names : Names t o

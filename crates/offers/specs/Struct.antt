@@ -1,6 +1,6 @@
 -- The struct Offers and the list beside it, seen as rows. Assumes nothing.
 use mathlib.Core.Path.{_≡_}
-use Prim.Native.Nat.{ℕ, _+_, _*_, _/_, _%_, _<_}
+use Prim.Native.Nat.{ℕ, _+_, _*_, _/_, _%_, _≤_, _<_}
 use mathlib.Core.List.{List}
 use lib.ListN.{length, getD}
 use Rattle.offers.specs.Rows.{Rows, entryOf}
@@ -32,7 +32,7 @@ pub record Copied (m : List ℕ) (c : ℕ) (o : Offers) : Type 0 where
 abbrev pub Linked : List ℕ → ℕ → List ℕ → Type 0
 Linked m c links = (x : ℕ) → x < 8 * c → getD links x 0 ≡ getD m (16 * (x / 8) + 8 + x % 8) 0 % 65536
 
--- the arrays have the lengths that they are declared with, which their types as lists don't say
+-- the arrays have the lengths that they are declared with, which their types as lists don't say, and there are no more offers than those
 pub record Full (o : Offers) : Type 0 where
   pub lasts-full : length (o .last) ≡ 64
   pub nodes-full : length (o .node) ≡ 64
@@ -42,3 +42,4 @@ pub record Full (o : Offers) : Type 0 where
   pub parents-full : length (o .parents) ≡ 64
   pub makers-full : length (o .makers) ≡ 64
   pub foes-full : length (o .foes) ≡ 64
+  pub few : o .count ≤ 64

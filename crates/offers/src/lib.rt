@@ -1,5 +1,5 @@
 // Offers as numbered rows: what a row says, how one is put at the end, and offers extended over an edge or begun on one.
-// Assumes of the table no more than that its bytes span its counts (`Spans`).
+// Of the table it reads nothing but the lists of the edges into each node.
 use table::Table;
 use wire::wide;
 use words::JOIN;
@@ -12,11 +12,10 @@ ghost use Prim.Native.Nat.{ℕ, _+_, _*_, _≤_, _<_};
 ghost use lib.ListN.{length};
 ghost use Rattle.paper.specs.Lists.{gather};
 ghost use Rattle.paper.specs.Table.{into, isJoin};
-ghost use Rattle.table.specs.Reading.{Spans};
 ghost use Rattle.paper.specs.Offers.{Offer, over};
 ghost use Rattle.paper.proofs.Members.{In};
 ghost use Rattle.offers.specs.Sets.{nth, meets};
-ghost use Rattle.offers.specs.Rows.{entryOf, rowsIn, cell, valueOf, admitted, letOver, Holds, Pushed, Controls, Hits, Ready, Led, Leaves, Outcome, overs, Ext, Ranges, Pass, startOf, Begin};
+ghost use Rattle.offers.specs.Rows.{entryOf, rowsIn, cell, valueOf, admitted, letOver, Holds, Pushed, Controls, Hits, Ready, Led, Leaves, Outcome, overs, Ext, Space, Feeds, Pass, startOf, Begin};
 
 // While they are built the rows stand in one lent slice, so that nothing but a slice and a count goes from call to call. A row is 16 cells: last
 // edge, the node it leaves, whether there is a value, the value, the number of paths, the words of parents, makers and foes, and for each path
@@ -61,27 +60,38 @@ pub struct Offers {
     pub count: usize,
 }
 
+// The edge that offers go onto, the node that it leaves, and that node's kind.
+pub struct Onto {
+    pub edge: u8,
+    pub node: u8,
+    pub kind: u8,
+}
+
+// What an offer carries: a token where `has` is 0, else the value.
+pub struct Worth {
+    pub has: u64,
+    pub value: u64,
+}
+
 // One row at the end.
 fn push(
     rows: &mut [u64],
     count: usize,
-    last: u64,
-    node: u64,
-    has: u64,
-    value: u64,
+    onto: Onto,
+    worth: Worth,
     paths: u64,
     parents: u64,
     makers: u64,
     foes: u64,
 )
     requires { ⌜ (count < 64) × (1024 ≤ length (now rows)) ⌝ }
-    ensures { λ _. ⌜ Pushed (rowsIn (now (rows .entry)) count) (rowsIn (now (rows .exit)) (count + 1)) (entryOf last node has value paths parents makers foes) ⌝ }
+    ensures { λ _. ⌜ Pushed (rowsIn (now (rows .entry)) count) (rowsIn (now (rows .exit)) (count + 1)) (entryOf (onto .edge) (onto .node) (worth .has) (worth .value) paths parents makers foes) ⌝ }
 {
     let at = WIDTH * count;
-    rows[at] = last;
-    rows[at + NODE] = node;
-    rows[at + HAS] = has;
-    rows[at + VALUE] = value;
+    rows[at] = onto.edge as u64;
+    rows[at + NODE] = onto.node as u64;
+    rows[at + HAS] = worth.has;
+    rows[at + VALUE] = worth.value;
     rows[at + PATHS] = paths;
     rows[at + PARENTS] = parents;
     rows[at + MAKERS] = makers;
@@ -130,26 +140,34 @@ fn clashes(rows: &[u64], count: usize, n: u64, k: u64, a: u64, c: u64) -> u64
     d
 }
 
-// One offer more: the one place that makes a row. m and f are the makers and the foes of what it was made of.
+// One offer more: the one place that makes a row. `makers` and `foes` are those of what it was made of.
 pub fn grow(
     rows: &mut [u64],
     count: usize,
-    l: u64,
-    n: u64,
-    k: u64,
-    h: u64,
-    v: u64,
-    p: u64,
-    a: u64,
-    m: u64,
-    f: u64,
+    onto: Onto,
+    worth: Worth,
+    paths: u64,
+    parents: u64,
+    makers: u64,
+    foes: u64,
 )
     requires { ⌜ (count < 64) × (1024 ≤ length (now rows)) ⌝ }
-    ensures { λ _. ⌜ ((t : List ℕ) (ts : List Offer) (x : Offer) → Holds t (rowsIn (now (rows .entry)) count) ts → Ready t (rowsIn (now (rows .entry)) count) ts x l n k h v p a m f → Holds t (rowsIn (now (rows .exit)) (count + 1)) (ts ++ (x ∷ []))) ⌝ }
+    ensures { λ _. ⌜ ((t : List ℕ) (ts : List Offer) (x : Offer) → Holds t (rowsIn (now (rows .entry)) count) ts → Ready t (rowsIn (now (rows .entry)) count) ts x onto worth paths parents makers foes → Holds t (rowsIn (now (rows .exit)) (count + 1)) (ts ++ (x ∷ []))) ⌝ }
 {
+    let n = onto.node as u64;
+    let k = onto.kind as u64;
     let c = controls(rows, count, k);
-    let d = clashes(rows, count, n, k, a, c);
-    push(rows, count, l, n, h, v, p, a, bit_of(count) | m, f | d);
+    let d = clashes(rows, count, n, k, parents, c);
+    push(
+        rows,
+        count,
+        onto,
+        worth,
+        paths,
+        parents,
+        bit_of(count) | makers,
+        foes | d,
+    );
 }
 
 // The number of paths of row i.
@@ -216,43 +234,33 @@ pub fn admits(gate: Gate, h: u64, v: u64) -> bool
 }
 
 // ---- offers extended, and first offers
-// Offer i extended over edge e, which leaves node n of kind k.
-fn extend(rows: &mut [u64], count: usize, i: usize, e: u8, n: u8, k: u8)
-    requires { ⌜ ((i < count) × (count < 64)) × (1024 ≤ length (now rows)) ⌝ }
-    ensures { λ _. ⌜ ((t : List ℕ) (ts : List Offer) → Holds t (rowsIn (now (rows .entry)) count) ts → (In (over (nth ts i) e) ts → ⊥) → Leaves t e n k → Holds t (rowsIn (now (rows .exit)) (count + 1)) (ts ++ (over (nth ts i) e ∷ []))) ⌝ }
-{
-    let p = paths_of(rows, i);
-    lead(rows, count, 0, i, p);
-    let at = WIDTH * i;
-    let h = rows[at + HAS];
-    let v = rows[at + VALUE];
-    let m = rows[at + MAKERS];
-    let f = rows[at + FOES];
-    grow(
-        rows,
-        count,
-        e as u64,
-        n as u64,
-        k as u64,
-        h,
-        v,
-        p as u64,
-        bit_of(i),
-        m,
-        f,
-    );
-}
-
 // The rows after a function that makes some, or the news that there are too many offers or paths.
 pub struct Grown {
     pub count: usize,
     pub ok: bool,
 }
 
-// Offer i extended over edge e, if the gate lets it. One that it bars is not counted, however full the rows are.
-fn extend_one(rows: &mut [u64], count: usize, i: usize, e: u8, n: u8, k: u8, gate: Gate) -> Grown
+// Offer i extended.
+fn extend(rows: &mut [u64], count: usize, i: usize, onto: Onto)
+    requires { ⌜ ((i < count) × (count < 64)) × (1024 ≤ length (now rows)) ⌝ }
+    ensures { λ _. ⌜ ((t : List ℕ) (ts : List Offer) → Holds t (rowsIn (now (rows .entry)) count) ts → (In (over (nth ts i) (onto .edge)) ts → ⊥) → Leaves t onto → Holds t (rowsIn (now (rows .exit)) (count + 1)) (ts ++ (over (nth ts i) (onto .edge) ∷ []))) ⌝ }
+{
+    let p = paths_of(rows, i);
+    lead(rows, count, 0, i, p);
+    let at = WIDTH * i;
+    let worth = Worth {
+        has: rows[at + HAS],
+        value: rows[at + VALUE],
+    };
+    let m = rows[at + MAKERS];
+    let f = rows[at + FOES];
+    grow(rows, count, onto, worth, p as u64, bit_of(i), m, f);
+}
+
+// Offer i extended, if the gate lets it. One that it bars is not counted, however full the rows are.
+fn extend_one(rows: &mut [u64], count: usize, i: usize, onto: Onto, gate: Gate) -> Grown
     requires { ⌜ ((i < count) × (count ≤ 64)) × (1024 ≤ length (now rows)) ⌝ }
-    ensures { λ r. ⌜ ((count ≤ r .count) × (r .count ≤ 64)) × ((t : List ℕ) (ts : List Offer) (x : Offer) → Ext t (rowsIn (now (rows .entry)) count) ts (x ∷ []) i (i + 1) e n k (admitted gate) → Outcome t (rowsIn (now (rows .exit)) (r .count)) (r .ok) (ts ++ overs e (letOver (admitted gate) (x ∷ [])))) ⌝ }
+    ensures { λ r. ⌜ ((count ≤ r .count) × (r .count ≤ 64)) × ((t : List ℕ) (ts : List Offer) (x : Offer) → Ext t (rowsIn (now (rows .entry)) count) ts (x ∷ []) i (i + 1) onto (admitted gate) → Outcome t (rowsIn (now (rows .exit)) (r .count)) (r .ok) (ts ++ overs (onto .edge) (letOver (admitted gate) (x ∷ [])))) ⌝ }
 {
     if !admits(gate, rows[WIDTH * i + HAS], rows[WIDTH * i + VALUE]) {
         return Grown {
@@ -266,31 +274,22 @@ fn extend_one(rows: &mut [u64], count: usize, i: usize, e: u8, n: u8, k: u8, gat
             ok: false,
         };
     }
-    extend(rows, count, i, e, n, k);
+    extend(rows, count, i, onto);
     Grown {
         count: count + 1,
         ok: true,
     }
 }
 
-// Those of the offers a to b that the gate lets over edge e, extended over it.
-fn extend_all(
-    rows: &mut [u64],
-    count: usize,
-    a: usize,
-    b: usize,
-    e: u8,
-    n: u8,
-    k: u8,
-    gate: Gate,
-) -> Grown
+// Those of the offers a to b that the gate lets over, extended.
+fn extend_all(rows: &mut [u64], count: usize, a: usize, b: usize, onto: Onto, gate: Gate) -> Grown
     requires { ⌜ ((a ≤ b) × (b ≤ count)) × ((count ≤ 64) × (1024 ≤ length (now rows))) ⌝ }
-    ensures { λ r. ⌜ ((count ≤ r .count) × (r .count ≤ 64)) × ((t : List ℕ) (ts xs : List Offer) → Ext t (rowsIn (now (rows .entry)) count) ts xs a b e n k (admitted gate) → Outcome t (rowsIn (now (rows .exit)) (r .count)) (r .ok) (ts ++ overs e (letOver (admitted gate) xs))) ⌝ }
+    ensures { λ r. ⌜ ((count ≤ r .count) × (r .count ≤ 64)) × ((t : List ℕ) (ts xs : List Offer) → Ext t (rowsIn (now (rows .entry)) count) ts xs a b onto (admitted gate) → Outcome t (rowsIn (now (rows .exit)) (r .count)) (r .ok) (ts ++ overs (onto .edge) (letOver (admitted gate) xs))) ⌝ }
 {
     let mut c = count;
     let mut i = a;
     while i < b {
-        let g = extend_one(rows, c, i, e, n, k, gate);
+        let g = extend_one(rows, c, i, onto, gate);
         if !g.ok {
             return g;
         }
@@ -300,27 +299,29 @@ fn extend_all(
     Grown { count: c, ok: true }
 }
 
-// A first offer on edge e, which leaves node s of kind k, if the gate lets it: c is 0 for none, 1 for a token, 2 for the value v.
-pub fn begin(
-    rows: &mut [u64],
-    count: usize,
-    e: u8,
-    s: u8,
-    k: u8,
-    c: u8,
-    v: u32,
-    gate: Gate,
-) -> Grown
+// What an edge carries at first: nothing for code 0, a token for 1, the value for 2.
+pub struct Start {
+    pub code: u8,
+    pub value: u32,
+}
+
+// A first offer, if there is one and the gate lets it.
+pub fn begin(rows: &mut [u64], count: usize, onto: Onto, gate: Gate, start: Start) -> Grown
     requires { ⌜ (count ≤ 64) × (1024 ≤ length (now rows)) ⌝ }
-    ensures { λ r. ⌜ ((count ≤ r .count) × (r .count ≤ 64)) × ((t : List ℕ) (ts : List Offer) → Begin t (rowsIn (now (rows .entry)) count) ts e s k c v (admitted gate) → Outcome t (rowsIn (now (rows .exit)) (r .count)) (r .ok) (ts ++ letOver (admitted gate) (startOf e c v))) ⌝ }
+    ensures { λ r. ⌜ ((count ≤ r .count) × (r .count ≤ 64)) × ((t : List ℕ) (ts : List Offer) → Begin t (rowsIn (now (rows .entry)) count) ts onto start (admitted gate) → Outcome t (rowsIn (now (rows .exit)) (r .count)) (r .ok) (ts ++ letOver (admitted gate) (startOf (onto .edge) (start .code) (start .value)))) ⌝ }
 {
-    if c == 0 {
+    let code = start.code;
+    if code == 0 {
         return Grown {
             count: count,
             ok: true,
         };
     }
-    if !admits(gate, (c - 1) as u64, v as u64) {
+    let worth = Worth {
+        has: (code - 1) as u64,
+        value: start.value as u64,
+    };
+    if !admits(gate, worth.has, worth.value) {
         return Grown {
             count: count,
             ok: true,
@@ -333,56 +334,39 @@ pub fn begin(
         };
     }
     rows[WIDTH * count + BEFORE] = 0;
-    grow(
-        rows,
-        count,
-        e as u64,
-        s as u64,
-        k as u64,
-        (c - 1) as u64,
-        v as u64,
-        1,
-        0,
-        0,
-        0,
-    );
+    grow(rows, count, onto, worth, 1, 0, 0, 0);
     Grown {
         count: count + 1,
         ok: true,
     }
 }
 
-// The offers on each incoming edge of node s that the gate lets over edge e, extended over it. `from` and `to` are the segments of the edges.
+// The offers on each edge into the node that the gate lets over, extended. `first` and `next` list the edges into each node, `from` and `to` are the
+// segments of the edges.
 pub fn pass(
     rows: &mut [u64],
     count: usize,
-    t: &[u8],
-    table: Table,
+    first: &[u8],
+    next: &[u8],
     from: &[u8],
     to: &[u8],
-    s: u8,
-    e: u8,
-    k: u8,
+    onto: Onto,
     gate: Gate,
 ) -> Grown
-    requires { ⌜ (Spans (now t) table × ((count ≤ 64) × (1024 ≤ length (now rows)))) × (Ranges (now from) (now to) count × ((64 ≤ length (now from)) × (64 ≤ length (now to)))) ⌝ }
-    ensures { λ r. ⌜ ((count ≤ r .count) × (r .count ≤ 64)) × ((ts : List Offer) (on : ℕ → List Offer) → Pass (now (t .entry)) (rowsIn (now (rows .entry)) count) ts on (now (from .entry)) (now (to .entry)) s e k (admitted gate) → Outcome (now (t .entry)) (rowsIn (now (rows .exit)) (r .count)) (r .ok) (ts ++ overs e (letOver (admitted gate) (gather on (into (now (t .entry)) s))))) ⌝ }
+    requires { ⌜ Space (now rows) (now from) (now to) count × Feeds (now first) (now next) (onto .node) ⌝ }
+    ensures { λ r. ⌜ ((count ≤ r .count) × (r .count ≤ 64)) × ((t : List ℕ) (ts : List Offer) (on : ℕ → List Offer) → Pass t (rowsIn (now (rows .entry)) count) ts on (now (first .entry)) (now (next .entry)) (now (from .entry)) (now (to .entry)) onto (admitted gate) → Outcome t (rowsIn (now (rows .exit)) (r .count)) (r .ok) (ts ++ overs (onto .edge) (letOver (admitted gate) (gather on (into t (onto .node)))))) ⌝ }
 {
-    let node = wide(s);
-    let n = table.edges;
     let mut c = count;
-    let mut j: usize = 0;
-    while j < n {
-        if table.target(t, j) == node {
-            let a = wide(from[j]);
-            let b = wide(to[j]);
-            let g = extend_all(rows, c, a, b, e, s, k, gate);
-            if !g.ok {
-                return g;
-            }
-            c = g.count;
+    let mut j = wide(first[wide(onto.node)]);
+    while j < Table::MOST_EDGES {
+        let a = wide(from[j]);
+        let b = wide(to[j]);
+        let g = extend_all(rows, c, a, b, onto, gate);
+        if !g.ok {
+            return g;
         }
-        j += 1;
+        c = g.count;
+        j = wide(next[j]);
     }
     Grown { count: c, ok: true }
 }

@@ -14,8 +14,12 @@ use Rattle.paper.specs.Offers.{Offer, parts, value, firsts, ways, handed, offer
 use Rattle.paper.proofs.Members.{In, Distinct}
 use Rattle.table.specs.declared.Table.{Table}
 use Rattle.table.specs.Reading.{Spans}
+use Rattle.table.specs.Incoming.{ListFrom, Incoming}
 use Rattle.terms.specs.Terms.{Ties}
-use Rattle.offers.specs.Rows.{Rows, Holds, Seg, startOf, fine}
+use Rattle.offers.specs.Rows.{Rows, Holds, Seg, Names, Feeds, admitted, startOf, fine}
+use Rattle.offers.specs.declared.Gate.{Gate}
+use Rattle.offers.specs.declared.Onto.{Onto}
+use Rattle.offers.specs.declared.Start.{Start}
 
 -- what goes over an edge: any gate will do
 abbrev pub Gates : Type 0
@@ -43,15 +47,19 @@ OneValue t goes on e =
     isJoin (kind t (source t e)) ≡ true → goes e none ≡ true
     → (w : Offer) → In w (ways t (each on (into t (source t e)))) → goes e (value w) ≡ all (λ p. goes e (value p)) (parts w)
 
--- what is known before the offers on edge e are put at the end of ts
-pub record Edge (t : List ℕ) (m : Marking) (goes : Gates) (g x : List ℕ) (r : Rows) (ts : List Offer) (on : ℕ → List Offer) (a b st ol : List ℕ) (e : ℕ) : Type 0 where
+-- what is known before the offers on an edge are put at the end of ts
+pub record Edge (t : List ℕ) (m : Marking) (goes : Gates) (r : Rows) (ts : List Offer) (on : ℕ → List Offer) (first next a b : List ℕ)
+    (o : Onto) (gate : Gate) (start : Start) : Type 0 where
   pub holds-ts : Holds t r ts
-  pub ties : Ties t g x goes
-  pub is : on e ≡ keep (λ o. goes e (value o)) (handed t m on e)
-  pub segs : isControlNode (kind t (source t e)) ≡ true → (j : ℕ) → j < edges t → target t j ≡ source t e → Seg ts (getD a j 0) (getD b j 0) (on j)
-  pub distinct : Distinct (ts ++ on e)
-  pub starts : isControlNode (kind t (source t e)) ≡ false → firsts t m e ≡ startOf e (getD st e 0) (getD ol e 0)
-  pub one-value : OneValue t goes on e
+  pub names : Names t o
+  pub list : ListFrom next (getD first (o .node) 0) (into t (o .node))
+  pub lets : (v : Option ℕ) → goes (o .edge) v ≡ admitted gate v
+  pub is : on (o .edge) ≡ keep (λ x. goes (o .edge) (value x)) (handed t m on (o .edge))
+  pub segs : isControlNode (kind t (source t (o .edge))) ≡ true → (j : ℕ) → j < edges t → target t j ≡ source t (o .edge)
+      → Seg ts (getD a j 0) (getD b j 0) (on j)
+  pub distinct : Distinct (ts ++ on (o .edge))
+  pub starts : isControlNode (kind t (source t (o .edge))) ≡ false → firsts t m (o .edge) ≡ startOf (o .edge) (start .code) (start .value)
+  pub one-value : OneValue t goes on (o .edge)
 
 -- ---- rounds
 -- the edges that come before edge e in round r
@@ -63,6 +71,10 @@ pub record Framed (t : List ℕ) (x : Table) : Type 0 where
   pub spans : Spans t x
   pub sources : (j : ℕ) → j < edges t → source t j < nodes t
   pub targets : (j : ℕ) → j < edges t → target t j < nodes t
+
+-- the lists of the edges into each node can be gone through
+abbrev pub Fed : List ℕ → List ℕ → List ℕ → Type 0
+Fed t first next = (i : ℕ) → i < nodes t → Feeds first next i
 
 -- a table that was read, and a guard, a first offer's code and value for each edge
 pub record Sized (t : List ℕ) (x : Table) (g st ol : List ℕ) : Type 0 where
@@ -82,6 +94,12 @@ pub record Input (t : List ℕ) (m : Marking) (goes : Gates) (g x st ol : List �
 pub record Rising (t rk : List ℕ) (c : ℕ) : Type 0 where
   pub rises : (j : ℕ) → j < edges t → isControlNode (kind t (target t j)) ≡ true → rankOf t rk j < getD rk (target t j) 0
   pub low : (j : ℕ) → j < edges t → rankOf t rk j < c
+
+-- what the rounds go by: ranks, and the lists of incoming edges
+pub record Plan (t : List ℕ) (m : Marking) (goes : Gates) (g x st ol rk first next : List ℕ) (top : ℕ) : Type 0 where
+  pub input : Input t m goes g x st ol
+  pub rising : Rising t rk top
+  pub incoming : Incoming t first next
 
 -- the edges ds are done: those before edge e in round r
 pub record Stage (t : List ℕ) (on : ℕ → List Offer) (rk : List ℕ) (r e : ℕ) (rows : Rows) (a b : List ℕ) (ds : List ℕ) : Type 0 where

@@ -10,9 +10,11 @@ use Rattle.paper.specs.Lists.{all, any, each, gather, has}
 use Rattle.paper.specs.Table.{edges, target, into}
 use Rattle.paper.specs.Offers.{Offer, first, over, with, parts, makers, paths, value, orElse, compete, ways}
 use Rattle.paper.proofs.Members.{In, Distinct}
+use Rattle.table.specs.Incoming.{ListFrom}
 use Rattle.offers_ahead.specs.Dead.{Room}
 use Rattle.offers.specs.Sets.{nth, Means, Foes}
 use Rattle.offers.specs.Rows.{Rows, Holds, Leads, valueOf, letOver, overs, Seg, Leaves}
+use Rattle.offers.specs.declared.Onto.{Onto}
 use Rattle.offers_join.specs.declared.Way.{Way}
 
 -- ---- the search, on trees
@@ -103,17 +105,17 @@ pub record Safe (m a b bad seg chosen : List ℕ) (n c d q : ℕ) : Type 0 where
 
 -- the search from here on: pre is taken on the edges before q, and oss are the offers on the edges q to d
 pub record Dfs (t : List ℕ) (goes : Option ℕ → Bool) (r : Rows) (ts pre : List Offer) (oss : List (List Offer)) (a b bad seg chosen : List ℕ)
-    (n d q blocked wanted e s k : ℕ) : Type 0 where
+    (n d q blocked wanted : ℕ) (o : Onto) : Type 0 where
   pub holds-ts : Holds t r ts
   pub some-edge : 0 < d
   pub old : n ≤ length ts
   pub levels : Levels ts a b q d oss
-  pub distinct : Distinct (ts ++ found t goes e pre oss)
+  pub distinct : Distinct (ts ++ found t goes (o .edge) pre oss)
   pub picked : Picked ts chosen q pre
   pub blocks : Blocks t goes ts n pre blocked
   pub rivals : Rivals t ts n wanted bad
   pub spans : Spans a b d seg wanted
-  pub leaves : Leaves t e s k
+  pub leaves : Leaves t o
 
 -- ---- the incoming edges
 -- lo and hi have the segments of the edges js, as a and b have them by edge
@@ -122,11 +124,19 @@ pub record Listed (a b js lo hi : List ℕ) (d : ℕ) : Type 0 where
   pub lows : (i : ℕ) → i < length js → getD lo i 0 ≡ getD a (getD js i 0) 0
   pub highs : (i : ℕ) → i < length js → getD hi i 0 ≡ getD b (getD js i 0) 0
 
--- the offers on the incoming edges of the join s are to be joined over e, as far as they go over it
-pub record Meeting (t : List ℕ) (goes : Option ℕ → Bool) (r : Rows) (ts : List Offer) (on : ℕ → List Offer) (a b : List ℕ) (s e k : ℕ) : Type 0 where
+-- one of the first d edges has no offer
+pub record Bare (lo hi : List ℕ) (d : ℕ) : Type 0 where
+  pub edge : ℕ
+  pub listed : edge < d
+  pub none-there : getD hi edge 0 ≤ getD lo edge 0
+
+-- the offers on the edges into the join are to be joined, as far as they go over the edge
+pub record Meeting (t : List ℕ) (goes : Option ℕ → Bool) (r : Rows) (ts : List Offer) (on : ℕ → List Offer)
+    (first next a b : List ℕ) (o : Onto) : Type 0 where
   pub holds-ts : Holds t r ts
-  pub segs : (j : ℕ) → j < edges t → target t j ≡ s → Seg ts (getD a j 0) (getD b j 0) (on j)
-  pub distinct : Distinct (ts ++ overs e (letOver goes (ways t (each on (into t s)))))
-  pub leaves : Leaves t e s k
+  pub list : ListFrom next (getD first (o .node) 0) (into t (o .node))
+  pub segs : (j : ℕ) → j < edges t → target t j ≡ o .node → Seg ts (getD a j 0) (getD b j 0) (on j)
+  pub distinct : Distinct (ts ++ overs (o .edge) (letOver goes (ways t (each on (into t (o .node))))))
+  pub leaves : Leaves t o
   -- of the offers taken together at most one has a value, so a way goes over the edge exactly if each of its offers does
-  pub one-value : (w : Offer) → In w (ways t (each on (into t s))) → goes (value w) ≡ all (λ p. goes (value p)) (parts w)
+  pub one-value : (w : Offer) → In w (ways t (each on (into t (o .node)))) → goes (value w) ≡ all (λ p. goes (value p)) (parts w)

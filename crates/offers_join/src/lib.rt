@@ -1,5 +1,5 @@
 // A join: the search for its ways, depth first with a look-ahead, each put at the end of the rows of offers.
-// Assumes of the table no more than that its bytes span its counts (`Spans`).
+// Of the table it reads nothing but the lists of the edges into each node.
 use offers::FOES;
 use offers::Gate;
 use offers::Grown;
@@ -7,8 +7,10 @@ use offers::HAS;
 use offers::MAKERS;
 use offers::MOST_OFFERS;
 use offers::MOST_PATHS;
+use offers::Onto;
 use offers::VALUE;
 use offers::WIDTH;
+use offers::Worth;
 use offers::admits;
 use offers::compete;
 use offers::grow;
@@ -28,11 +30,11 @@ ghost use Rattle.paper.specs.Lists.{each};
 ghost use Rattle.paper.specs.Table.{into};
 ghost use Rattle.paper.specs.Offers.{Offer, over, ways};
 ghost use Rattle.paper.proofs.Members.{In};
-ghost use Rattle.table.specs.Reading.{Spans as TableSpans};
+ghost use Rattle.table.specs.Incoming.{ListFrom};
 ghost use Rattle.offers_ahead.specs.Dead.{Dead, Room};
 ghost use Rattle.offers.specs.Sets.{nth};
-ghost use Rattle.offers.specs.Rows.{rowsIn, admitted, letOver, Holds, Leaves, Outcome, overs, Ranges};
-ghost use Rattle.offers_join.specs.Joins.{together, found, Taken, Picked, RivalRow, Rivals, Span, Spans, Bars, Within, Safe, Dfs, Listed, Meeting};
+ghost use Rattle.offers.specs.Rows.{rowsIn, admitted, letOver, Holds, Leaves, Outcome, overs, Space, Feeds};
+ghost use Rattle.offers_join.specs.Joins.{together, found, Taken, Picked, RivalRow, Rivals, Span, Spans, Bars, Within, Safe, Dfs, Listed, Bare, Meeting};
 
 // The offers that compete with offer i.
 fn rivals_of(rows: &[u64], count: usize, i: usize) -> u64
@@ -175,10 +177,10 @@ fn taken(rows: &mut [u64], count: usize, chosen: &[u8], d: usize) -> Way
     w
 }
 
-// The d offers chosen, joined over edge e.
-fn leaf(rows: &mut [u64], count: usize, chosen: &[u8], d: usize, e: u8, s: u8, k: u8) -> Grown
+// The d offers chosen, joined.
+fn leaf(rows: &mut [u64], count: usize, chosen: &[u8], d: usize, onto: Onto) -> Grown
     requires { ⌜ ((count ≤ 64) × (1024 ≤ length (now rows))) × (((d ≤ 64) × (d ≤ length (now chosen))) × ((k : ℕ) → k < d → getD (now chosen) k 0 < 64)) ⌝ }
-    ensures { λ r. ⌜ ((count ≤ r .count) × (r .count ≤ 64)) × ((t : List ℕ) (ts ps : List Offer) → Holds t (rowsIn (now (rows .entry)) count) ts → Picked ts (now (chosen .entry)) d ps → 0 < length ps → (In (over (together ps) e) ts → ⊥) → Leaves t e s k → Outcome t (rowsIn (now (rows .exit)) (r .count)) (r .ok) (ts ++ (over (together ps) e ∷ []))) ⌝ }
+    ensures { λ r. ⌜ ((count ≤ r .count) × (r .count ≤ 64)) × ((t : List ℕ) (ts ps : List Offer) → Holds t (rowsIn (now (rows .entry)) count) ts → Picked ts (now (chosen .entry)) d ps → 0 < length ps → (In (over (together ps) (onto .edge)) ts → ⊥) → Leaves t onto → Outcome t (rowsIn (now (rows .exit)) (r .count)) (r .ok) (ts ++ (over (together ps) (onto .edge) ∷ []))) ⌝ }
 {
     if MOST_OFFERS <= count {
         return Grown {
@@ -194,14 +196,15 @@ fn leaf(rows: &mut [u64], count: usize, chosen: &[u8], d: usize, e: u8, s: u8, k
             ok: false,
         };
     }
+    let worth = Worth {
+        has: w.has,
+        value: w.value,
+    };
     grow(
         rows,
         count,
-        e as u64,
-        s as u64,
-        k as u64,
-        w.has,
-        w.value,
+        onto,
+        worth,
         p as u64,
         w.parents,
         w.makers,
@@ -228,7 +231,7 @@ fn lost(rivals: &[u64], edges: &[u64], n: usize, q: usize, d: usize, blocked: u6
 }
 
 // The search for ways, depth first: offers are chosen on the edges before q, and those in `blocked` compete with one of them or are barred by the
-// gate of edge e. So a barred offer is never taken, and the look-ahead knows of it. n is the number of offers before the join: its own come after
+// gate. So a barred offer is never taken, and the look-ahead knows of it. n is the number of offers before the join: its own come after
 // them.
 fn join(
     rows: &mut [u64],
@@ -242,15 +245,13 @@ fn join(
     d: usize,
     q: usize,
     blocked: u64,
-    e: u8,
-    s: u8,
-    k: u8,
+    onto: Onto,
 ) -> Grown
     requires { ⌜ Safe (now rows) (now lo) (now hi) (now rivals) (now edges) (now chosen) n count d q ⌝ }
-    ensures { λ r. ⌜ ((count ≤ r .count) × (r .count ≤ 64)) × (((k : ℕ) → k < q → getD (now (chosen .exit)) k 0 ≡ getD (now (chosen .entry)) k 0) × ((t : List ℕ) (goes : Option ℕ → Bool) (ts pre : List Offer) (oss : List (List Offer)) (wanted : ℕ) → Dfs t goes (rowsIn (now (rows .entry)) count) ts pre oss (now (lo .entry)) (now (hi .entry)) (now (rivals .entry)) (now (edges .entry)) (now (chosen .entry)) n d q blocked wanted e s k → Outcome t (rowsIn (now (rows .exit)) (r .count)) (r .ok) (ts ++ found t goes e pre oss))) ⌝ }
+    ensures { λ r. ⌜ ((count ≤ r .count) × (r .count ≤ 64)) × (((k : ℕ) → k < q → getD (now (chosen .exit)) k 0 ≡ getD (now (chosen .entry)) k 0) × ((t : List ℕ) (goes : Option ℕ → Bool) (ts pre : List Offer) (oss : List (List Offer)) (wanted : ℕ) → Dfs t goes (rowsIn (now (rows .entry)) count) ts pre oss (now (lo .entry)) (now (hi .entry)) (now (rivals .entry)) (now (edges .entry)) (now (chosen .entry)) n d q blocked wanted onto → Outcome t (rowsIn (now (rows .exit)) (r .count)) (r .ok) (ts ++ found t goes (onto .edge) pre oss))) ⌝ }
 {
     if q == d {
-        return leaf(rows, count, chosen, d, e, s, k);
+        return leaf(rows, count, chosen, d, onto);
     }
     if lost(rivals, edges, n, q, d, blocked) {
         return Grown {
@@ -276,9 +277,7 @@ fn join(
                 d,
                 q + 1,
                 blocked | rivals[i],
-                e,
-                s,
-                k,
+                onto,
             );
             if !g.ok {
                 return g;
@@ -292,52 +291,67 @@ fn join(
 
 // The segments of the incoming edges of node s, in order, and their number.
 fn incoming(
-    t: &[u8],
-    table: Table,
+    first: &[u8],
+    next: &[u8],
     from: &[u8],
     to: &[u8],
     s: u8,
     lo: &mut [u8],
     hi: &mut [u8],
 ) -> usize
-    requires { ⌜ (TableSpans (now t) table × ((64 ≤ length (now from)) × (64 ≤ length (now to)))) × ((64 ≤ length (now lo)) × (64 ≤ length (now hi))) ⌝ }
-    ensures { λ r. ⌜ (r ≤ 64) × Listed (now (from .entry)) (now (to .entry)) (into (now (t .entry)) s) (now (lo .exit)) (now (hi .exit)) r ⌝ }
+    requires { ⌜ Feeds (now first) (now next) s × (((64 ≤ length (now from)) × (64 ≤ length (now to))) × ((64 ≤ length (now lo)) × (64 ≤ length (now hi)))) ⌝ }
+    ensures { λ r. ⌜ (r ≤ 64) × ((js : List ℕ) → ListFrom (now (next .entry)) (getD (now (first .entry)) s 0) js → Listed (now (from .entry)) (now (to .entry)) js (now (lo .exit)) (now (hi .exit)) r) ⌝ }
 {
-    let node = wide(s);
-    let n = table.edges;
     let mut d: usize = 0;
-    let mut j: usize = 0;
-    while j < n {
-        if table.target(t, j) == node {
-            lo[d] = from[j];
-            hi[d] = to[j];
-            d += 1;
-        }
-        j += 1;
+    let mut j = wide(first[wide(s)]);
+    while j < Table::MOST_EDGES {
+        lo[d] = from[j];
+        hi[d] = to[j];
+        d += 1;
+        j = wide(next[j]);
     }
     d
 }
 
-// The offers on the incoming edges of the join s, joined over edge e as far as its gate lets them.
+// Whether one of d edges has no offer: nothing then comes through the join.
+fn is_bare(lo: &[u8], hi: &[u8], d: usize) -> bool
+    requires { ⌜ (d ≤ length (now lo)) × (d ≤ length (now hi)) ⌝ }
+    ensures { λ r. ⌜ (r ≡ true → Bare (now (lo .entry)) (now (hi .entry)) d) ⌝ }
+{
+    let mut k: usize = 0;
+    while k < d {
+        if hi[k] <= lo[k] {
+            return true;
+        }
+        k += 1;
+    }
+    false
+}
+
+// The offers on the edges into a join, joined as far as the gate lets them.
 pub fn meet(
     rows: &mut [u64],
     count: usize,
-    t: &[u8],
-    table: Table,
+    first: &[u8],
+    next: &[u8],
     from: &[u8],
     to: &[u8],
-    s: u8,
-    e: u8,
-    k: u8,
+    onto: Onto,
     gate: Gate,
 ) -> Grown
-    requires { ⌜ (TableSpans (now t) table × ((count ≤ 64) × (1024 ≤ length (now rows)))) × (Ranges (now from) (now to) count × ((64 ≤ length (now from)) × (64 ≤ length (now to)))) ⌝ }
-    ensures { λ r. ⌜ ((count ≤ r .count) × (r .count ≤ 64)) × ((ts : List Offer) (on : ℕ → List Offer) → Meeting (now (t .entry)) (admitted gate) (rowsIn (now (rows .entry)) count) ts on (now (from .entry)) (now (to .entry)) s e k → Outcome (now (t .entry)) (rowsIn (now (rows .exit)) (r .count)) (r .ok) (ts ++ overs e (letOver (admitted gate) (ways (now (t .entry)) (each on (into (now (t .entry)) s)))))) ⌝ }
+    requires { ⌜ Space (now rows) (now from) (now to) count × Feeds (now first) (now next) (onto .node) ⌝ }
+    ensures { λ r. ⌜ ((count ≤ r .count) × (r .count ≤ 64)) × ((t : List ℕ) (ts : List Offer) (on : ℕ → List Offer) → Meeting t (admitted gate) (rowsIn (now (rows .entry)) count) ts on (now (first .entry)) (now (next .entry)) (now (from .entry)) (now (to .entry)) onto → Outcome t (rowsIn (now (rows .exit)) (r .count)) (r .ok) (ts ++ overs (onto .edge) (letOver (admitted gate) (ways t (each on (into t (onto .node))))))) ⌝ }
 {
     let mut lo = [0u8; 64];
     let mut hi = [0u8; 64];
-    let d = incoming(t, table, from, to, s, &mut lo, &mut hi);
+    let d = incoming(first, next, from, to, onto.node, &mut lo, &mut hi);
     if d == 0 {
+        return Grown {
+            count: count,
+            ok: true,
+        };
+    }
+    if is_bare(&lo, &hi, d) {
         return Grown {
             count: count,
             ok: true,
@@ -361,8 +375,6 @@ pub fn meet(
         d,
         0,
         blocked,
-        e,
-        s,
-        k,
+        onto,
     )
 }

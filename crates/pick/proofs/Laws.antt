@@ -1,29 +1,22 @@
--- What pick answers of what the search found on a board, and what the search is lent of a board that was read. Assumes nothing.
+-- What pick answers of what the search found on a board. Assumes nothing.
 use mathlib.Core.Path.{_≡_, refl, sym, subst, _∙_}
 use mathlib.Core.Bool.{Bool, true, false, _&&_}
 use mathlib.Core.List.{List}
 use Prim.Native.Nat.{ℕ, _+_, _*_, _^_, _≤_, _<_}
-use native.Mathlib.Omega.{arith}
 use lib.Dec.{leb}
 use lib.ListN.{length, take}
-use Rattle.paper.specs.Lists.{at}
 use Rattle.paper.specs.Answers.{Answer, refused, good}
-use Rattle.paper.specs.Table.{edges, upper}
-use Rattle.paper.specs.Offers.{Offer}
 use Rattle.paper.specs.Choices.{Board, howMany, acceptable, FirstOf}
 use Rattle.paper.specs.Operations.{named, wanted, PickOn, packed, inRoom, Reply, Leaves}
 use Rattle.paper.proofs.Bools.{never}
 use Rattle.paper.proofs.EmptyChoice.{empty-acceptable}
 use Rattle.paper.proofs.Picks.{searchedOn, search-picks}
-use Rattle.table.specs.declared.Table.{Table}
-use Rattle.table.specs.Reading.{tableRead}
-use Rattle.table.proofs.Reading.{read-spans}
 use Rattle.offers.specs.declared.Offers.{Offers}
 use Rattle.pick_search.specs.declared.Found.{Found}
 use Rattle.pick_search.specs.declared.Found.the-variants.{Choice, Nothing}
-use Rattle.offers.specs.Rows.{Rows}
-use Rattle.ends_masks.specs.Seating.{Rowed, Seated}
-use Rattle.pick_rules.specs.Rules.{Lent, holds}
+use Rattle.ends_masks.specs.Seating.{Stands}
+use Rattle.ends_masks.specs.declared.Ends.{Ends}
+use Rattle.pick_rules.specs.Rules.{holds}
 use Rattle.pick_rules.proofs.Rows.{passes-holds}
 use Rattle.pick_bounds.specs.declared.Wanted.{Wanted}
 use Rattle.pick_bounds.specs.Net.{passes, netOf, held}
@@ -31,10 +24,7 @@ use Rattle.pick_bounds.proofs.Rules.{first-same}
 use Rattle.pick_search.specs.Searching.{Answers}
 use Rattle.choice.specs.Choice.{numbers}
 use Rattle.choice.proofs.Laws.{taken-numbers}
-use Rattle.marking_held.specs.declared.Held.{Held}
-use Rattle.marking_held.specs.TakenUp.{HeldFull}
-use Rattle.marking_held.proofs.TakenUp.{full-room}
-use Rattle.pick.specs.Picking.{Pickable, Answered}
+use Rattle.pick.specs.Picking.{Answered}
 
 -- ---- what the search answers, of tests that agree
 pub answers-holds : (net : List ℕ) (k : ℕ) → 20 + 4 * k ≤ length net → (want : Wanted) (n : ℕ) (f : Found) → Answers (netOf (take (20 + 4 * k) net) want) n f
@@ -77,36 +67,6 @@ leaves-choice d i f c n q e a w out after h =
     let a : FirstOf (wanted d i) (howMany d) c = rw q at a in
     record { answer = good (numbers c n); allowed = (c, a, taken-numbers d c n e); reply = h }
 
--- ---- what is lent to the search
-module _ {t : List ℕ} {x : Table} (e : tableRead t ≡ good x) {o : Offers} {ends : List ℕ} {n : ℕ} (p : Pickable t o ends n) where
-  pub rowed-in : (xs : List ℕ) → length xs ≡ 64 → Rowed ends n (length xs)
-  rowed-in xs q = rw q (p .rowed)
-
-  pub edges-in : (k : ℕ) → k < n → at (o .last) (at ends k) < x .edges
-  edges-in k m = omega (arith, p .edges-inside k m, read-spans t e .edges-read)
-
-  pub lent : {y : Held} → HeldFull y → (edge target home : List ℕ) → n ≤ length edge → n ≤ length target → n ≤ length home
-      → Lent t x (o .node) (o .parents) (o .makers) (o .foes) ends edge target home (y .runs) (y .kept) (o .count) n
-  lent h edge target home a b c =
-      let f = p .full in
-      let q = read-spans t e in
-      let r = full-room t e h in
-      record {
-        good-table = e;
-        makers-of = rowed-in (o .makers) (f .makers-full);
-        foes-of = rowed-in (o .foes) (f .foes-full);
-        few-rows = p .few-rows;
-        row-nodes = omega (arith, p .few-rows, f .nodes-full);
-        row-parents = omega (arith, p .few-rows, f .parents-full);
-        few-ends = p .few;
-        end-edges = a;
-        end-targets = b;
-        end-homes = c;
-        node-runs = omega (arith, q .nodes-read, r .runs-there);
-        node-stocks = omega (arith, q .nodes-read, r .kepts);
-      }
-
 -- ---- a board whose stocks are within upper
-pub fits-empty : {t : List ℕ} {d : Board} {y : Rows} {ts : List Offer} {ends : List ℕ} {n : ℕ} → Seated t d y ts ends n
-    → ((i : ℕ) → length (d .current .stock i) ≤ upper t i) → acceptable d 0 ≡ true
-fits-empty {d = d} s h = empty-acceptable d (rw (s .table-is) h)
+pub fits-empty : {t : List ℕ} {d : Board} {o : Offers} {es : Ends} {runs stock : List ℕ} → Stands t d o es runs stock → acceptable d 0 ≡ true
+fits-empty {d = d} s = empty-acceptable d (rw (s .seated .table-is) (s .roomy))

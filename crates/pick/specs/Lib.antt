@@ -1,2 +1,2 @@
--- What the search for a choice is lent.
+-- What the search for a choice answers.
 pub mod Picking

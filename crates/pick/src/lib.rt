@@ -1,24 +1,21 @@
 // pick on a board: the first acceptable choice, or the first that has an end of the named node, looked for and written.
-// The board's offers and ends are lent as they were read (`Pickable`).
+// Takes a board's offers, its ends and what is held by value; what they mean is said of any board that stands in them (`Stands`).
 ghost use mathlib.Core.Path.{_≡_};
 ghost use mathlib.Core.Bool.{true, _&&_};
-ghost use mathlib.Core.List.{List};
 ghost use Prim.Native.Nat.{ℕ, _+_, _^_, _≤_, _<_};
 ghost use lib.Dec.{leb};
 ghost use lib.ListN.{length};
 ghost use Rattle.paper.specs.Answers.{good};
-ghost use Rattle.paper.specs.Table.{upper};
-ghost use Rattle.paper.specs.Offers.{Offer};
 ghost use Rattle.paper.specs.Choices.{Board, howMany, acceptable};
 ghost use Rattle.paper.specs.Operations.{Leaves, wanted, PickOn};
 ghost use Rattle.table.specs.Reading.{tableRead};
-ghost use Rattle.offers.specs.Struct.{rowsOf, Full};
-ghost use Rattle.ends_masks.specs.Seating.{Seated, allowed};
-ghost use Rattle.ends_masks.proofs.Rules.{Told};
-ghost use Rattle.marking_held.specs.TakenUp.{HeldFull};
+ghost use Rattle.offers.specs.Struct.{Full};
+ghost use Rattle.ends_masks.specs.Seating.{EndsFull, Stands};
+ghost use Rattle.marking_held.specs.MarkingHeld.{HeldLengths};
 ghost use Rattle.pick_bounds.specs.Net.{held as heldOf};
-ghost use Rattle.pick_rules.specs.Rules.{Lent, Roomy, holds};
-ghost use Rattle.pick.specs.Picking.{Pickable, Answered};
+ghost use Rattle.pick_rules.specs.Rules.{holds};
+ghost use Rattle.pick.specs.Picking.{Answered};
+use ends_masks::Ends;
 use marking_held::Held;
 use offers::Offers;
 use pick_bounds::Wanted;
@@ -31,70 +28,25 @@ pub struct Question {
     pub want: Wanted,
 }
 
-// The net of a board, in a lent slice, and how many rules it has: the columns of the offers and of the marking are lent for it.
-fn filled(
-    net: &mut [u32],
-    t: &[u8],
-    table: Table,
-    offers: Offers,
-    ends: &[u8],
-    edge: &[u8],
-    target: &[u8],
-    home: &[u8],
-    n: usize,
-    held: Held,
-) -> usize
-    requires { ⌜ Full offers × HeldFull held × (440 ≤ length (now net)) × Lent (now t) table (offers .node) (offers .parents) (offers .makers) (offers .foes) (now ends) (now edge) (now target) (now home) (held .runs) (held .kept) (offers .count) n ⌝ }
-    ensures { λ r. ⌜ (r ≤ 105) × (Roomy (now (t .entry)) (held .kept) → (c : ℕ) → holds (now (net .exit)) r n c ≡ allowed (now (t .entry)) (offers .node) (offers .parents) (offers .makers) (offers .foes) (now (ends .entry)) (now (edge .entry)) (now (target .entry)) (now (home .entry)) (held .runs) (held .kept) (offers .count) n c) ⌝ }
-{
-    let node = offers.node;
-    let parents = offers.parents;
-    let makers = offers.makers;
-    let foes = offers.foes;
-    let runs = held.runs;
-    let kept = held.kept;
-    pick_rules::fill(
-        net,
-        t,
-        table,
-        &node,
-        &parents,
-        &makers,
-        &foes,
-        offers.count,
-        ends,
-        edge,
-        target,
-        home,
-        n,
-        &runs,
-        &kept,
-    )
-}
-
 // The net of a board, and what is wanted of it.
 fn prepare(
     t: &[u8],
     table: Table,
     offers: Offers,
-    ends: &[u8],
-    n: usize,
+    ends: Ends,
     held: Held,
     node: u8,
     net: &mut [u32],
 ) -> Question
-    requires { ⌜ (tableRead (now t) ≡ good table) × Pickable (now t) offers (now ends) n × HeldFull held × (440 ≤ length (now net)) ⌝ }
-    ensures { λ r. ⌜ (r .rules ≤ 105) × ((links : List ℕ) (d : Board) (ts : List Offer) → Seated (now (t .entry)) d (rowsOf offers links) ts (now (ends .entry)) n → Told (now (t .entry)) (d .current) (held .runs) (held .kept) → ((i : ℕ) → length (d .current .stock i) ≤ upper (now (t .entry)) i) → (c : ℕ) → holds (now (net .exit)) (r .rules) n c && leb (r .want .least) (heldOf n c (r .want .ends)) ≡ wanted d node c) ⌝ }
+    requires { ⌜ (tableRead (now t) ≡ good table) × Full offers × EndsFull ends × HeldLengths held × (440 ≤ length (now net)) ⌝ }
+    ensures { λ r. ⌜ (r .rules ≤ 105) × ((d : Board) → Stands (now (t .entry)) d offers ends (held .runs) (held .kept) → (c : ℕ) → holds (now (net .exit)) (r .rules) (ends .count) c && leb (r .want .least) (heldOf (ends .count) c (r .want .ends)) ≡ wanted d node c) ⌝ }
 {
-    let last = offers.last;
-    let mut edge = [0u8; offers::MOST_ENDS];
-    let mut target = [0u8; offers::MOST_ENDS];
-    let mut home = [0u8; offers::MOST_ENDS];
-    ends_masks::columns(t, table, &last, ends, n, &mut edge, &mut target, &mut home);
-    let rules = filled(net, t, table, offers, ends, &edge, &target, &home, n, held);
+    let target = ends.target;
+    let home = ends.home;
+    let rules = pick_rules::fill(net, t, table, offers, ends, held);
     Question {
         rules: rules,
-        want: pick_wanted::wanted(&target, &home, n, node),
+        want: pick_wanted::wanted(&target, &home, ends.count, node),
     }
 }
 
@@ -107,21 +59,13 @@ pub fn first(net: &[u32], asked: Question, n: usize) -> Found
 }
 
 // The first acceptable choice that has an end of the node, if one is named.
-pub fn choose(
-    t: &[u8],
-    table: Table,
-    offers: Offers,
-    ends: &[u8],
-    n: usize,
-    held: Held,
-    node: u8,
-) -> Found
-    requires { ⌜ (tableRead (now t) ≡ good table) × Pickable (now t) offers (now ends) n × HeldFull held ⌝ }
-    ensures { λ r. ⌜ ((links : List ℕ) (d : Board) (ts : List Offer) → Seated (now (t .entry)) d (rowsOf offers links) ts (now (ends .entry)) n → Told (now (t .entry)) (d .current) (held .runs) (held .kept) → ((i : ℕ) → length (d .current .stock i) ≤ upper (now (t .entry)) i) → Answered (wanted d node) (howMany d) r) ⌝ }
+pub fn choose(t: &[u8], table: Table, offers: Offers, ends: Ends, held: Held, node: u8) -> Found
+    requires { ⌜ (tableRead (now t) ≡ good table) × Full offers × EndsFull ends × HeldLengths held ⌝ }
+    ensures { λ r. ⌜ ((d : Board) → Stands (now (t .entry)) d offers ends (held .runs) (held .kept) → Answered (wanted d node) (howMany d) r) ⌝ }
 {
     let mut net = [0u32; pick_rules::CELLS];
-    let asked = prepare(t, table, offers, ends, n, held, node, &mut net);
-    first(&net, asked, n)
+    let asked = prepare(t, table, offers, ends, held, node, &mut net);
+    first(&net, asked, ends.count)
 }
 
 // How many states the search in a net visits: what a test can hold down.
@@ -133,21 +77,13 @@ pub fn effort(net: &[u32], asked: Question, n: usize) -> usize
 }
 
 // How many the search for that choice visits.
-pub fn states(
-    t: &[u8],
-    table: Table,
-    offers: Offers,
-    ends: &[u8],
-    n: usize,
-    held: Held,
-    node: u8,
-) -> usize
-    requires { ⌜ (tableRead (now t) ≡ good table) × Pickable (now t) offers (now ends) n × HeldFull held ⌝ }
-    ensures { λ r. ⌜ (1 ≤ r) × (r < 2 ^ (n + 22)) ⌝ }
+pub fn states(t: &[u8], table: Table, offers: Offers, ends: Ends, held: Held, node: u8) -> usize
+    requires { ⌜ (tableRead (now t) ≡ good table) × Full offers × EndsFull ends × HeldLengths held ⌝ }
+    ensures { λ r. ⌜ (1 ≤ r) × (r < 2 ^ (ends .count + 22)) ⌝ }
 {
     let mut net = [0u32; pick_rules::CELLS];
-    let asked = prepare(t, table, offers, ends, n, held, node, &mut net);
-    effort(&net, asked, n)
+    let asked = prepare(t, table, offers, ends, held, node, &mut net);
+    effort(&net, asked, ends.count)
 }
 
 // What pick answers of n ends, where `found` is what was looked for: row 13, or a choice.
@@ -166,15 +102,14 @@ pub fn pick(
     t: &[u8],
     table: Table,
     offers: Offers,
-    ends: &[u8],
-    n: usize,
+    ends: Ends,
     held: Held,
     node: u8,
     out: &mut [u8],
 ) -> u64
-    requires { ⌜ (tableRead (now t) ≡ good table) × Pickable (now t) offers (now ends) n × HeldFull held ⌝ }
-    ensures { λ r. ⌜ ((links : List ℕ) (d : Board) (ts : List Offer) → Seated (now (t .entry)) d (rowsOf offers links) ts (now (ends .entry)) n → Told (now (t .entry)) (d .current) (held .runs) (held .kept) → ((i : ℕ) → length (d .current .stock i) ≤ upper (now (t .entry)) i) → Leaves (PickOn d node) r (now (out .entry)) (now (out .exit))) ⌝ }
+    requires { ⌜ (tableRead (now t) ≡ good table) × Full offers × EndsFull ends × HeldLengths held ⌝ }
+    ensures { λ r. ⌜ ((d : Board) → Stands (now (t .entry)) d offers ends (held .runs) (held .kept) → Leaves (PickOn d node) r (now (out .entry)) (now (out .exit))) ⌝ }
 {
-    let found = choose(t, table, offers, ends, n, held, node);
-    conclude(found, n, node, out)
+    let found = choose(t, table, offers, ends, held, node);
+    conclude(found, ends.count, node, out)
 }

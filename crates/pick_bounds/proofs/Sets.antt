@@ -2,21 +2,22 @@
 use mathlib.Core.Path.{_≡_, refl, sym, ap, _∙_}
 use mathlib.Core.Logic.{⊎-elim}
 use mathlib.Core.Bool.{Bool, true, false, not, _&&_, _||_}
-use Prim.Native.Nat.{ℕ, zero, suc, _+_, _-_, _*_, _/_, _%_, _^_, _≤_, _<_, min, max}
-use native.Mathlib.Nat.{pow-suc, pow-succ', div-one, div-div-eq-div-mul, mod-lt, mod-eq-of-lt, mod-self, zero-lt-suc, le-refl, div-eq-of-lt, lt-of-le-of-lt, zero-add}
+use Prim.Native.Nat.{ℕ, zero, suc, _+_, _-_, _/_, _%_, _^_, _≤_, _<_, min, max}
+use native.Mathlib.Nat.{pow-suc, pow-succ', div-one, div-div-eq-div-mul, mod-lt, mod-eq-of-lt, mod-self, zero-lt-suc, div-eq-of-lt, lt-of-le-of-lt, zero-add}
 use native.Mathlib.Omega.{arith}
 use native.Mathlib.Decide.{decLt}
 use lib.Dec.{eqb, leb}
 use lib.Pow.{pow-lt, pow-pos}
 use lib.Bits.{bitAnd, bitOr, bitXor, differ, and-shr, and-step, or-shr, or-step, xor-shr, xor-step, and-le-l, and-le-r, and-mask}
-use lib.Count.{ones, ones-cat, ones-step, trailingZeros, under}
-use borrow.Author.Tests.{eq-eqb, eqb-true, eqb-false, leb-false, le-leb, lt-leb}
+use lib.Count.{ones, trailingZeros, under}
+use borrow.Author.Tests.{leb-false}
 use Rattle.paper.specs.Lists.{has, below, count, any, oneIf}
 use Rattle.paper.proofs.Bools.{never, and-true, and-both, or-left, or-right, true-or-false, false-if}
 use Rattle.paper.proofs.Counts.{count-below, count-most, any-below-none}
 use Rattle.paper.proofs.Members.{any-count, any-in, in-any, below-in, in-below}
 use Rattle.paper.proofs.Digits.{has-mod, has-zero, digit-in, digit-out, in-digit}
 use Rattle.paper.proofs.Bits.{has-high}
+use Rattle.words.proofs.Ones.{ones-both, some-both}
 use Rattle.pick_bounds.specs.Net.{inBoth, held, meets}
 use Rattle.pick_bounds.specs.Bounds.{Without}
 
@@ -213,46 +214,13 @@ held-wider x d m (suc r) l =
     rw (e, count-below (inBoth x d) (m + r), f) (let h : count (inBoth x d) (below (m + r)) ≡ count (inBoth x d) (below m) = held-wider x d m r l in omega arith)
 
 -- ---- the ones of a word
-ones-held : (c d n : ℕ) → ones (bitAnd c d % 2 ^ n) ≡ held n c d
-unfolding held ones
-ones-held c d zero = let e : bitAnd c d % 1 ≡ 0 = omega arith in rw e
-ones-held c d (suc n) =
-    rw (count-below (inBoth c d) n) (by (inBoth c d n) (has-and c d n) (ones-held c d n))
-  where
-    one : ones (bitAnd c d % 2 ^ n + 2 ^ n) ≡ ones (bitAnd c d % 2 ^ n) + 1
-    one =
-        let e : bitAnd c d % 2 ^ n + 2 ^ n ≡ 1 * 2 ^ n + bitAnd c d % 2 ^ n = omega arith in
-        ap ones e ∙ ones-cat n 1 (bitAnd c d % 2 ^ n) (mod-lt (bitAnd c d) (pow-pos n)) ∙ (omega arith)
-
-    by : (t : Bool) → has (bitAnd c d) n ≡ t → ones (bitAnd c d % 2 ^ n) ≡ count (inBoth c d) (below n)
-        → ones (bitAnd c d % 2 ^ suc n) ≡ count (inBoth c d) (below n) + oneIf t
-    by true h ih = ap ones (digit-in (bitAnd c d) n _ refl h) ∙ one ∙ (omega arith)
-    by false h ih = ap ones (digit-out (bitAnd c d) n _ refl h) ∙ ih ∙ (omega arith)
-
 pub held-word : (n c d : ℕ) → c < 2 ^ n → ones (bitAnd c d) ≡ held n c d
-held-word n c d l = sym (ap ones (mod-eq-of-lt (lt-of-le-of-lt (and-le-l c d) l))) ∙ ones-held c d n
-
-ones-some : (n z : ℕ) → z ≤ n → (z ≡ 0 → ⊥) → 1 ≤ ones z
-ones-some zero z l ne = absurd (ne (omega arith))
-ones-some (suc n) z l ne =
-    ⊎-elim (λ h. let e = eqb-true (z / 2) 0 h in let s = ones-step z in omega (arith, ne))
-    (λ h. let s = ones-step z in let i = ones-some n (z / 2) (omega (arith, ne)) (λ e. never (eqb (z / 2) 0) (eq-eqb (z / 2) 0 e) h) in omega arith)
-    (true-or-false (eqb (z / 2) 0))
-
-ones-none : ones 0 ≡ 0
-unfolding ones
-ones-none = refl
+unfolding held
+held-word n c d l = ones-both n c d l
 
 pub meets-word : (n c d : ℕ) → c < 2 ^ n → not (eqb (bitAnd c d) 0) ≡ meets n c d
-meets-word n c d l =
-    ⊎-elim
-    (λ z.
-    let e = ap ones (eqb-true (bitAnd c d) 0 z) ∙ ones-none in
-    rw z (sym (meets-held n c d ∙ lt-leb 1 (held n c d) (let h = held-word n c d l in omega arith))))
-    (λ z.
-    let g = ones-some (bitAnd c d) (bitAnd c d) (le-refl (bitAnd c d)) (eqb-false (bitAnd c d) 0 z) in
-    rw z (sym (meets-held n c d ∙ le-leb 1 (held n c d) (let h = held-word n c d l in omega arith))))
-    (true-or-false (eqb (bitAnd c d) 0))
+unfolding meets
+meets-word n c d l = some-both n c d l
 
 -- a set within another is what the two have in common
 pub digits-same : (n c d : ℕ) → c < 2 ^ n → ((k : ℕ) → k < n → has c k ≡ true → has d k ≡ true) → bitAnd c d ≡ c

@@ -18,6 +18,8 @@ use Rattle.paper.proofs.Tables.{GoodTable}
 use Rattle.table.specs.Reading.{tableRead}
 use Rattle.table.specs.declared.Table.{Table}
 use Rattle.table.proofs.Reading.{read-good, read-spans}
+use Rattle.offers.specs.declared.Offers.{Offers}
+use Rattle.ends_masks.specs.declared.Ends.{Ends}
 use Rattle.ends_masks.proofs.Rules.{if-so}
 use Rattle.ends_masks.specs.Seating.{kept, passed, seats, served, actionFits, fits, noRivals, forksWhole, destinationsFit, allowed}
 use Rattle.pick_rules.specs.Rules.{holds, allPass, onEach, Starts, Added, AddedUpto, Roomy, clashKept, forkKept, edgeKept, idleKept, pinKept, storeKept, destinationTests}
@@ -31,12 +33,12 @@ room-for x stock upper l =
     (λ h. let z = leb-true x (upper - stock) h in le-leb (stock + x) upper (omega arith))
 
 -- ---- rule 2
-module _ (t node parents makers ends : List ℕ) (rows n c : ℕ) where
+module _ (t node parents makers : List ℕ) (rows n c : ℕ) where
   abbrev forkPart : Bool
-  forkPart = all (λ z. forkKept t node parents makers ends rows n z c) (below rows)
+  forkPart = all (λ z. forkKept t node parents makers rows n z c) (below rows)
 
   abbrev forkRule : Bool
-  forkRule = forksWhole t node parents makers ends rows n c
+  forkRule = forksWhole t node parents makers rows n c
 
   split : (a b : Bool) → not (a && not b) ≡ a ⇒ b
   split true true = refl
@@ -48,10 +50,10 @@ module _ (t node parents makers ends : List ℕ) (rows n c : ℕ) where
   fork-there h =
       below-all _ (nodes t)
       (λ i l.
-      split (isFork (kind t i)) (all (λ z. eqb (at node z) i ⇒ kept node parents makers ends rows n c z) (below rows))
+      split (isFork (kind t i)) (all (λ z. eqb (at node z) i ⇒ kept node parents makers rows n c z) (below rows))
       ∙ if-so (isFork (kind t i)) _
       (λ f.
-      below-all (λ z. eqb (at node z) i ⇒ kept node parents makers ends rows n c z) rows
+      below-all (λ z. eqb (at node z) i ⇒ kept node parents makers rows n c z) rows
       (λ z g.
       if-so (eqb (at node z) i) _
       (λ e.
@@ -210,30 +212,30 @@ alike-then {ps} {qs} {rules} {r} {c} e f = record {
   same = all-append (λ p. p c) ps qs ∙ ap₂ (λ (x y : Bool). x && y) (e .same ∙ mathlib.Core.Bool.and-true (r c)) (f .same);
 }
 
-module _ (t node parents makers foes ends edge target home runs stock : List ℕ) (rows n c : ℕ) (g : GoodTable t limits) (room : Roomy t stock) where
+module _ (t : List ℕ) (o : Offers) (es : Ends) (runs stock : List ℕ) (c : ℕ) (g : GoodTable t limits) (room : Roomy t stock) where
   abbrev clashes : ℕ → Bool
-  clashes = onEach (clashKept foes makers ends n) (below n)
+  clashes = onEach (clashKept (es .foes) (es .makers) (es .count)) (below (es .count))
 
   abbrev forks : ℕ → Bool
-  forks = onEach (forkKept t node parents makers ends rows n) (below rows)
+  forks = onEach (forkKept t (o .node) (o .parents) (es .makers) (o .count) (es .count)) (below (o .count))
 
-  pub clashes-say : Alike (clashes ∷ []) (noRivals foes makers ends n ∷ []) c
+  pub clashes-say : Alike (clashes ∷ []) (noRivals (es .foes) (es .makers) (es .count) ∷ []) c
   unfolding clashKept noRivals
   clashes-say = record { same = refl }
 
-  pub forks-say : Alike (forks ∷ []) (forksWhole t node parents makers ends rows n ∷ []) c
-  forks-say = record { same = ap (λ (b : Bool). b && true) (iff _ _ (fork-there t node parents makers ends rows n c) (fork-back t node parents makers ends rows n c)) }
+  pub forks-say : Alike (forks ∷ []) (forksWhole t (o .node) (o .parents) (es .makers) (o .count) (es .count) ∷ []) c
+  forks-say = record { same = ap (λ (b : Bool). b && true) (iff _ _ (fork-there t (o .node) (o .parents) (es .makers) (o .count) (es .count) c) (fork-back t (o .node) (o .parents) (es .makers) (o .count) (es .count) c)) }
 
-  pub destinations-alike : Alike (destinationTests t edge target home runs stock n) (destinationsFit t edge target home runs stock n ∷ []) c
-  destinations-alike = record { same = destinations-say t edge target home runs stock n c g room ∙ sym (mathlib.Core.Bool.and-true (destinationsFit t edge target home runs stock n c)) }
+  pub destinations-alike : Alike (destinationTests t (es .edge) (es .target) (es .home) runs stock (es .count)) (destinationsFit t (es .edge) (es .target) (es .home) runs stock (es .count) ∷ []) c
+  destinations-alike = record { same = destinations-say t (es .edge) (es .target) (es .home) runs stock (es .count) c g room ∙ sym (mathlib.Core.Bool.and-true (destinationsFit t (es .edge) (es .target) (es .home) runs stock (es .count) c)) }
 
-  rules-say : allPass ((clashes ∷ []) ++ ((forks ∷ []) ++ destinationTests t edge target home runs stock n)) c
-      ≡ allowed t node parents makers foes ends edge target home runs stock rows n c
+  rules-say : allPass ((clashes ∷ []) ++ ((forks ∷ []) ++ destinationTests t (es .edge) (es .target) (es .home) runs stock (es .count))) c
+      ≡ allowed t o es runs stock c
   unfolding allowed
   rules-say = alike-then clashes-say (alike-then forks-say destinations-alike) .same
 
   -- so the runs of rows, one after the other, say it
-  pub filled-says : {l₁ l₂ l₃ : List ℕ} {r₂ r₃ most : ℕ} → Starts l₁ n (clashes ∷ []) → AddedUpto l₁ 0 l₂ r₂ n (forkKept t node parents makers ends rows n) rows
-      → Added l₂ r₂ l₃ r₃ most n (destinationTests t edge target home runs stock n)
-      → holds l₃ r₃ n c ≡ allowed t node parents makers foes ends edge target home runs stock rows n c
+  pub filled-says : {l₁ l₂ l₃ : List ℕ} {r₂ r₃ most : ℕ} → Starts l₁ (es .count) (clashes ∷ []) → AddedUpto l₁ 0 l₂ r₂ (es .count) (forkKept t (o .node) (o .parents) (es .makers) (o .count) (es .count)) (o .count)
+      → Added l₂ r₂ l₃ r₃ most (es .count) (destinationTests t (es .edge) (es .target) (es .home) runs stock (es .count))
+      → holds l₃ r₃ (es .count) c ≡ allowed t o es runs stock c
   filled-says h i j = started-then h (added-then i j) c ∙ rules-say

@@ -19,7 +19,7 @@ use Rattle.paper.proofs.Members.{below-in, any-none, any-count}
 use Rattle.pick_bounds.specs.Net.{rule, obeys}
 use Rattle.ends_masks.proofs.Rules.{if-so}
 use Rattle.ends_masks.specs.Seating.{seats, served}
-use Rattle.pick_rules.specs.Rules.{allPass, onEach, Added, AddedUpto, Bars, vacant, leads, firstRow, edgeKept, edgeRow, edgeBar, idleKept, pinKept, storeKept, seatsKept, targetRow, pinBar, nodeBar, destinationTests}
+use Rattle.pick_rules.specs.Rules.{allPass, onEach, Added, AddedUpto, Bars, vacant, leads, firstRow, edgeKept, edgeRow, edgeBar, idleKept, pinKept, storeKept, seatsKept, targetRow, pinBar, nodeBar, barsKept, destinationTests}
 use Rattle.pick_rules.proofs.Rows.{added-then, added-alike, added-same}
 use Rattle.pick_rules.proofs.Masks.{bars-or, bars-all, bars-row}
 
@@ -164,13 +164,17 @@ module _ (t edge target home runs stock : List ℕ) (n c : ℕ) where
       order true false false e i p h = refl
       order false b d e i p h = refl
 
--- the rows of edges, of targets and of what is barred, one after the other
-pub destinations-added : (t edge target home runs stock : List ℕ) {n es ns x y : ℕ} {l₁ l₂ l₃ l₄ : List ℕ} {r₁ r₂ r₃ r₄ : ℕ} → es ≡ edges t → ns ≡ nodes t → n ≤ 20
-    → AddedUpto l₁ r₁ l₂ r₂ n (edgeRow t edge target home n) n → AddedUpto l₂ r₂ l₃ r₃ n (targetRow t target home runs stock n) n
+-- what is barred at edges and at nodes
+pub bars-kept : (t edge target home runs stock : List ℕ) {n es ns x y : ℕ} → es ≡ edges t → ns ≡ nodes t
     → Bars n x (onEach (edgeBar t edge target home n) (below es)) → Bars n y (onEach (nodeBar t target home runs stock n) (below ns))
-    → Added l₃ r₃ l₄ r₄ 1 n (obeys n (rule (bitOr x y) (bitOr x y) 0 0) ∷ [])
+    → Bars n (bitOr x y) (barsKept t edge target home runs stock n)
+bars-kept t edge target home runs stock {n} ee en be bn =
+    bars-or (bars-all (edgeBar t edge target home n) ee be) (bars-all (nodeBar t target home runs stock n) en bn)
+
+-- the rows of edges, of targets and of what is barred, one after the other
+pub destinations-added : (t edge target home runs stock : List ℕ) {n x : ℕ} {l₁ l₂ l₃ l₄ : List ℕ} {r₁ r₂ r₃ r₄ : ℕ} → n ≤ 20
+    → AddedUpto l₁ r₁ l₂ r₂ n (edgeRow t edge target home n) n → AddedUpto l₂ r₂ l₃ r₃ n (targetRow t target home runs stock n) n
+    → Bars n x (barsKept t edge target home runs stock n) → Added l₃ r₃ l₄ r₄ 1 n (obeys n (rule x x 0 0) ∷ [])
     → Added l₁ r₁ l₄ r₄ 41 n (destinationTests t edge target home runs stock n)
-destinations-added t edge target home runs stock {n} ee en few es ts be bn last =
-    added-alike (omega arith) (λ c. refl)
-    (added-then (added-then es ts)
-    (added-same (bars-row (bars-or (bars-all (edgeBar t edge target home n) ee be) (bars-all (nodeBar t target home runs stock n) en bn))) last))
+destinations-added t edge target home runs stock few es ts b last =
+    added-alike (omega arith) (λ c. refl) (added-then (added-then es ts) (added-same (bars-row b) last))

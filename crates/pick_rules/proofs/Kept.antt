@@ -10,10 +10,10 @@ use lib.Bits.{bitAnd, and-comm}
 use lib.ListN.{length, set}
 use lib.Pow.{pow-lt}
 use lib.Seq.{getD-set-same, getD-set-other}
-use borrow.Author.Tests.{eq-eqb, ne-eqb, lt-ltb, le-ltb, ltb-true, leb-true, le-leb, eqb-true}
+use borrow.Author.Tests.{eq-eqb, ne-eqb, lt-ltb, le-ltb, leb-true, le-leb, eqb-true}
 use Rattle.paper.specs.Lists.{at, has, below, any, within, _⇒_}
 use Rattle.paper.specs.Table.{nodes, edges, kind, owner, lower, upper, target as targetOfEdge, isAction, isBuffer, isOutgoing}
-use Rattle.paper.proofs.Bools.{and-true, and-both, and-never, iff, if-true}
+use Rattle.paper.proofs.Bools.{and-true, and-both, and-never, iff}
 use Rattle.paper.proofs.Bits.{has-pow, meet-has, has-meet}
 use Rattle.paper.proofs.Counts.{any-below-none}
 use Rattle.paper.proofs.Lists.{all-below, below-all}
@@ -23,9 +23,9 @@ use Rattle.pick_bounds.specs.Net.{rule, clash, rivalsAt, meets, inBoth, held, o
 use Rattle.pick_bounds.proofs.FourKinds.{clash-obeyed, need-obeyed, cap-obeyed}
 use Rattle.pick_bounds.proofs.Rules.{obeys-apart}
 use Rattle.ends_masks.specs.Seating.{rival, rivalled, makes, siblings, kept, seats, served}
-use Rattle.ends_masks.proofs.Numbers.{any-below-alike, all-below-alike}
-use Rattle.ends_masks.proofs.Rules.{if-so}
-use Rattle.pick_wanted.proofs.Masks.{meets-marks, held-marks, Owned, meets-served}
+use Rattle.ends_masks.proofs.Numbers.{any-below-alike}
+use Rattle.choice_masks.specs.Masks.{Owned}
+use Rattle.pick_wanted.proofs.Masks.{meets-marks, held-marks, meets-served}
 use Rattle.pick_rules.specs.Rules.{holds, onEach, Starts, leads, vacant, firstRow, Bars, clashKept, forkKept, edgeKept, edgeBar, pinKept, storeKept, seatsKept, nodeBar}
 use Rattle.pick_rules.specs.Rules.{idleKept, pinBar}
 
@@ -57,8 +57,8 @@ module _ (column : List ℕ) (most : ℕ) (keeps : ℕ → Bool) (k : ℕ) where
   row-later d = if-not _ _ (ap (λ (b : Bool). ltb (at column k) most && b) d ∙ and-never (ltb (at column k) most))
 
 -- ---- rule 1
-module _ (foes makers ends : List ℕ) (n : ℕ) where
-  clash-says : (k w c : ℕ) → k < n → Marks (rival foes makers ends k) n w → obeys n (clash k w) c ≡ clashKept foes makers ends n k c
+module _ (foes makers : List ℕ) (n : ℕ) where
+  clash-says : (k w c : ℕ) → k < n → Marks (rival foes makers k) n w → obeys n (clash k w) c ≡ clashKept foes makers n k c
   unfolding clashKept rivalled
   clash-says k w c l h = clash-obeyed n c k w l ∙ ap (λ (b : Bool). not (has c k && b)) (meets-marks h c)
 
@@ -70,12 +70,12 @@ module _ (foes makers ends : List ℕ) (n : ℕ) where
 
   -- the cells below k are filled
   pub record Filled (net : List ℕ) (k : ℕ) : Type 0 where
-    pub cells : (j : ℕ) → j < k → (c : ℕ) → obeys n (rivalsAt net j) c ≡ clashKept foes makers ends n j c
+    pub cells : (j : ℕ) → j < k → (c : ℕ) → obeys n (rivalsAt net j) c ≡ clashKept foes makers n j c
 
   pub filled-none : (net : List ℕ) → Filled net 0
   filled-none net = record { cells = λ j l. absurd (omega arith) }
 
-  pub filled-more : (net : List ℕ) (k w : ℕ) → k < length net → k < n → Marks (rival foes makers ends k) n w → Filled net k → Filled (set net k w) (k + 1)
+  pub filled-more : (net : List ℕ) (k w : ℕ) → k < length net → k < n → Marks (rival foes makers k) n w → Filled net k → Filled (set net k w) (k + 1)
   filled-more net k w room few h f = record {
     cells = λ j l c.
         elim (decLt j k) [
@@ -84,58 +84,58 @@ module _ (foes makers ends : List ℕ) (n : ℕ) where
         ];
   }
 
-  pub filled-all : (net : List ℕ) (k : ℕ) → k ≡ n → n ≤ 20 → Filled net k → Starts net n (onEach (clashKept foes makers ends n) (below n) ∷ [])
+  pub filled-all : (net : List ℕ) (k : ℕ) → k ≡ n → n ≤ 20 → Filled net k → Starts net n (onEach (clashKept foes makers n) (below n) ∷ [])
   unfolding holds
   filled-all net k e few f = record {
     says = λ c.
         ap (λ (b : Bool). b && true)
         (iff _ _
         (λ h.
-        below-all (λ j. clashKept foes makers ends n j c) n
+        below-all (λ j. clashKept foes makers n j c) n
         (λ j l. sym (f .cells j (omega arith) c) ∙ all-below (λ j. obeys n (rivalsAt net j) c) 20 h j (omega arith)))
         (λ h.
         below-all (λ j. obeys n (rivalsAt net j) c) 20
         (λ j l.
         elim (decLt j n) [
-          | yes g ↦ f .cells j (omega arith) c ∙ all-below (λ j. clashKept foes makers ends n j c) n h j g
+          | yes g ↦ f .cells j (omega arith) c ∙ all-below (λ j. clashKept foes makers n j c) n h j g
           | no g ↦ clash-past j (at net j) c (omega arith)
         ])));
   }
 
 -- ---- rule 2
-abbrev pub Made : List ℕ → List ℕ → ℕ → ℕ → ℕ → Type 0
-Made makers ends n word w = Marks (λ k. not (eqb (bitAnd (at makers (at ends k)) word) 0)) n w
+abbrev pub Made : List ℕ → ℕ → ℕ → ℕ → Type 0
+Made makers n word w = Marks (λ k. not (eqb (bitAnd (at makers k) word) 0)) n w
 
 -- an end is taken that a row of the word makes, exactly if a row of the word makes a taken end
-module _ (makers ends : List ℕ) (n c : ℕ) where
-  made-meets : (p : ℕ → Bool) (rows word w : ℕ) → Marks p rows word → Made makers ends n word w
-      → meets n c w ≡ any (λ y. p y && makes makers ends n c y) (below rows)
+module _ (makers : List ℕ) (n c : ℕ) where
+  made-meets : (p : ℕ → Bool) (rows word w : ℕ) → Marks p rows word → Made makers n word w
+      → meets n c w ≡ any (λ y. p y && makes makers n c y) (below rows)
   unfolding makes
   made-meets p rows word w h m =
       meets-marks m c
       ∙ iff _ _
       (λ e.
-      let k = any-in (λ k. has c k && not (eqb (bitAnd (at makers (at ends k)) word) 0)) (below n) e in
+      let k = any-in (λ k. has c k && not (eqb (bitAnd (at makers k) word) 0)) (below n) e in
       let q = and-true (has c (k .0)) _ (k .2) in
-      let y = meet-has word (at makers (at ends (k .0))) rows (h .small) (ap (λ (z : ℕ). not (eqb z 0)) (and-comm word (at makers (at ends (k .0)))) ∙ q .1) in
-      in-any (λ y. p y && any (λ k. has c k && has (at makers (at ends k)) y) (below n)) (below-in rows (y .1))
+      let y = meet-has word (at makers (k .0)) rows (h .small) (ap (λ (z : ℕ). not (eqb z 0)) (and-comm word (at makers (k .0))) ∙ q .1) in
+      in-any (λ y. p y && any (λ k. has c k && has (at makers k) y) (below n)) (below-in rows (y .1))
       (and-both _ _ (sym (h .says (y .0) (y .1)) ∙ y .2)
-      (in-any (λ k. has c k && has (at makers (at ends k)) (y .0)) (k .1) (and-both _ _ (q .0) (y .3)))))
+      (in-any (λ k. has c k && has (at makers k) (y .0)) (k .1) (and-both _ _ (q .0) (y .3)))))
       (λ e.
-      let y = any-in (λ y. p y && any (λ k. has c k && has (at makers (at ends k)) y) (below n)) (below rows) e in
+      let y = any-in (λ y. p y && any (λ k. has c k && has (at makers k) y) (below n)) (below rows) e in
       let q = and-true (p (y .0)) _ (y .2) in
-      let k = any-in (λ k. has c k && has (at makers (at ends k)) (y .0)) (below n) (q .1) in
+      let k = any-in (λ k. has c k && has (at makers k) (y .0)) (below n) (q .1) in
       let r = and-true (has c (k .0)) _ (k .2) in
-      in-any (λ k. has c k && not (eqb (bitAnd (at makers (at ends k)) word) 0)) (k .1)
-      (and-both _ _ (r .0) (has-meet (at makers (at ends (k .0))) word (y .0) (r .1) (h .says (y .0) (in-below rows (y .1)) ∙ q .0))))
+      in-any (λ k. has c k && not (eqb (bitAnd (at makers k) word) 0)) (k .1)
+      (and-both _ _ (r .0) (has-meet (at makers (k .0)) word (y .0) (r .1) (h .says (y .0) (in-below rows (y .1)) ∙ q .0))))
 
   -- of one row alone
-  one-meets : (z w : ℕ) → Made makers ends n (2 ^ z) w → meets n c w ≡ makes makers ends n c z
+  one-meets : (z w : ℕ) → Made makers n (2 ^ z) w → meets n c w ≡ makes makers n c z
   unfolding makes
   one-meets z w m =
       meets-marks m c
-      ∙ any-below-alike (λ k. has c k && not (eqb (bitAnd (at makers (at ends k)) (2 ^ z)) 0)) (λ k. has c k && has (at makers (at ends k)) z) n
-      (λ k l. ap (λ (b : Bool). has c k && b) (one (at makers (at ends k))))
+      ∙ any-below-alike (λ k. has c k && not (eqb (bitAnd (at makers k) (2 ^ z)) 0)) (λ k. has c k && has (at makers k) z) n
+      (λ k l. ap (λ (b : Bool). has c k && b) (one (at makers k)))
     where
       one : (x : ℕ) → not (eqb (bitAnd x (2 ^ z)) 0) ≡ has x z
       one x =
@@ -145,21 +145,21 @@ module _ (makers ends : List ℕ) (n c : ℕ) where
           ap (has x) (sym (eqb-true (j .0) z (sym (has-pow z (j .0)) ∙ j .2))) ∙ j .3)
           (λ e. has-meet x (2 ^ z) z e (has-pow z z ∙ eq-eqb z z refl))
 
-module _ (t node parents makers ends : List ℕ) (rows n z c : ℕ) where
+module _ (t node parents makers : List ℕ) (rows n z c : ℕ) where
   pub fork-says : (word w v : ℕ) → at node z < nodes t → kind t (at node z) ≡ 10 → n ≤ 20
-      → Marks (λ y. siblings node parents y z) rows word → Made makers ends n word w → Made makers ends n (2 ^ z) v
-      → obeys n (rule w v 1 32) c ≡ forkKept t node parents makers ends rows n z c
+      → Marks (λ y. siblings node parents y z) rows word → Made makers n word w → Made makers n (2 ^ z) v
+      → obeys n (rule w v 1 32) c ≡ forkKept t node parents makers rows n z c
   unfolding forkKept kept
   fork-says word w v l e few h mw mv =
       need-obeyed n c w v (omega arith)
-      ∙ ap₂ (λ (a b : Bool). a ⇒ b) (made-meets makers ends n c (λ y. siblings node parents y z) rows word w h mw) (one-meets makers ends n c z v mv)
+      ∙ ap₂ (λ (a b : Bool). a ⇒ b) (made-meets makers n c (λ y. siblings node parents y z) rows word w h mw) (one-meets makers n c z v mv)
       ∙ sym (rw (lt-ltb (at node z) (nodes t) l, e))
 
-  pub fork-past : nodes t ≤ at node z → forkKept t node parents makers ends rows n z c ≡ true
+  pub fork-past : nodes t ≤ at node z → forkKept t node parents makers rows n z c ≡ true
   unfolding forkKept
   fork-past l = rw (le-ltb (at node z) (nodes t) l)
 
-  pub fork-other : at node z < nodes t → (kind t (at node z) ≡ 10 → ⊥) → forkKept t node parents makers ends rows n z c ≡ true
+  pub fork-other : at node z < nodes t → (kind t (at node z) ≡ 10 → ⊥) → forkKept t node parents makers rows n z c ≡ true
   unfolding forkKept
   fork-other l ne = rw (lt-ltb (at node z) (nodes t) l, ne-eqb (kind t (at node z)) 10 ne)
 

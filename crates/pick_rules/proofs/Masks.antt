@@ -1,6 +1,5 @@
--- Masks of the ends by column: how they fill, what they say of an end or a place, and words of ends that can't be taken. Assumes nothing.
+-- Masks of the ends by column: what they say of an end, and words of ends that can't be taken. Assumes nothing.
 use mathlib.Core.Path.{_≡_, refl, sym, ap, ap₂, _∙_}
-use mathlib.Core.Logic.{⊎-elim}
 use mathlib.Core.Bool.{Bool, true, false, not, _&&_, _||_}
 use mathlib.Core.List.{List, [], _∷_}
 use Prim.Native.Nat.{ℕ, _+_, _%_, _^_, _≤_, _<_}
@@ -8,50 +7,21 @@ use native.Mathlib.Nat.{mod-lt}
 use native.Mathlib.Omega.{arith}
 use lib.Bits.{bitOr}
 use lib.Dec.{eqb, leb}
-use lib.ListN.{length, set, length-set}
 use lib.Pow.{pow-pos}
-use lib.Seq.{getD-set-same, getD-set-other}
-use borrow.Author.Tests.{eq-eqb, ne-eqb, eqb-true, eqb-false, leb-true, leb-false, le-leb, lt-leb, not-true}
+use borrow.Author.Tests.{eq-eqb, eqb-true, leb-true, leb-false, le-leb, lt-leb, not-true}
 use Rattle.paper.specs.Lists.{at, has, below, any}
 use Rattle.paper.proofs.Bits.{has-or, no-digit}
-use Rattle.paper.proofs.Bools.{iff, true-or-false}
+use Rattle.paper.proofs.Bools.{iff}
 use Rattle.paper.proofs.Counts.{any-below-none}
 use Rattle.paper.proofs.Digits.{has-mod, has-zero}
 use Rattle.paper.proofs.Members.{any-none, below-in}
 use Rattle.offers.specs.Sets.{Marks}
-use Rattle.offers.proofs.Sets.{marks-nil, marks-skip, marks-more}
-use Rattle.table.specs.Reading.{Blank}
-use Rattle.table.specs.declared.Table.{Table}
 use Rattle.pick_bounds.specs.Net.{rule, meets, held, inBoth, obeys}
 use Rattle.pick_bounds.proofs.Sets.{meets-held}
 use Rattle.pick_bounds.proofs.FourKinds.{cap-obeyed}
 use Rattle.ends_masks.proofs.Numbers.{any-below-alike}
-use Rattle.pick_wanted.proofs.Masks.{marks-or, Owned}
-use Rattle.pick_rules.specs.Rules.{onEach, Masked, Masks, vacant, leads, Bars}
+use Rattle.pick_rules.specs.Rules.{onEach, vacant, leads, Bars}
 use Rattle.pick_rules.proofs.Rows.{all-more, meets-zero}
-
--- ---- one end after another
-pub masked-none : (column words : List ℕ) → Blank words → Masked column 0 words
-masked-none column words b = record { marks = λ x l. rw (b x) (marks-nil _) }
-
-pub masked-more : (column words : List ℕ) (k x : ℕ) → x ≡ at column k → Masked column k words → Masked column (k + 1) (set words x (bitOr (at words x) (2 ^ k)))
-masked-more column words k x e h = record { marks = each-word }
-  where
-    each-word : (y : ℕ) → y < length (set words x (bitOr (at words x) (2 ^ k))) → Marks (λ j. eqb (at column j) y) (k + 1) (at (set words x (bitOr (at words x) (2 ^ k))) y)
-    each-word y l =
-        let inside : y < length words = omega (arith, length-set words x (bitOr (at words x) (2 ^ k))) in
-        ⊎-elim
-        (λ q.
-        let z = eqb-true y x q in
-        rw (z, getD-set-same words x (bitOr (at words x) (2 ^ k)) 0 (omega arith))
-        (marks-more _ k (at words x) (eq-eqb (at column k) x (sym e)) (rw z at (h .marks y inside))))
-        (λ q.
-        let z = eqb-false y x q in
-        rw (getD-set-other words x y (bitOr (at words x) (2 ^ k)) 0 z)
-        (marks-skip _ k (at words y) (ne-eqb (at column k) y (λ u. z (sym u ∙ sym e))) (h .marks y inside))) (true-or-false (eqb y x))
-
-pub masked-all : {column words : List ℕ} {k n : ℕ} → k ≡ n → Masked column k words → Masked column n words
-masked-all e h = rw (sym e) h
 
 -- ---- a word is 0 exactly if nothing is marked
 pub marks-empty : {p : ℕ → Bool} {n w : ℕ} → Marks p n w → eqb w 0 ≡ not (any p (below n))
@@ -70,22 +40,6 @@ marks-fewer {p} {n} {w} k l m = record {
 
 pub leads-word : (column : List ℕ) {n x w : ℕ} (k : ℕ) → k < n → x ≡ at column k → Marks (λ j. eqb (at column j) x) n w → eqb (w % 2 ^ k) 0 ≡ leads column k
 leads-word column k l e m = marks-empty (marks-fewer k (omega arith) m) ∙ ap (vacant column k) e
-
--- ---- words of three columns
-pub masks-of : {table : Table} {edge target home : List ℕ} {n : ℕ} {byEdge byTarget byHome : List ℕ} → Masked edge n byEdge → Masked target n byTarget → Masked home n byHome
-    → table .edges ≤ length byEdge → table .nodes ≤ length byTarget → table .nodes ≤ length byHome → Masks table edge target home n byEdge byTarget byHome
-masks-of e t h le lt lh = record { edges-masked = e; targets-masked = t; homes-masked = h; edge-words = le; target-words = lt; home-words = lh }
-
-module _ {table : Table} {edge target home : List ℕ} {n : ℕ} {byEdge byTarget byHome : List ℕ} (m : Masks table edge target home n byEdge byTarget byHome) where
-  pub at-edge : (e : ℕ) → e < table .edges → Marks (λ k. eqb (at edge k) e) n (at byEdge e)
-  at-edge e l = m .edges-masked .marks e (let h = m .edge-words in omega arith)
-
-  pub at-target : (i : ℕ) → i < table .nodes → Marks (λ k. eqb (at target k) i) n (at byTarget i)
-  at-target i l = m .targets-masked .marks i (let h = m .target-words in omega arith)
-
-  -- the ends that belong to node i
-  pub at-both : (i : ℕ) → i < table .nodes → Owned target home n i (bitOr (at byTarget i) (at byHome i))
-  at-both i l = marks-or (at-target i l) (m .homes-masked .marks i (let h = m .home-words in omega arith))
 
 -- ---- ends that can't be taken
 pub bars-none : (n : ℕ) {p : ℕ → Bool} → ((c : ℕ) → p c ≡ true) → Bars n 0 p

@@ -1,4 +1,4 @@
--- Rules 1 to 3 on choices as a net of rules over sets of ends: what each row of it says, in the words of seating. Assumes nothing.
+-- Rules 1 to 3 on choices as a net of rules over sets of ends: what each row of it says, in the words of ends_masks. Assumes nothing.
 use mathlib.Core.Path.{_≡_}
 use Prim.Native.Nat.{ℕ, _+_, _-_, _≤_, _<_}
 use mathlib.Core.Bool.{Bool, true, not, _&&_, _||_}
@@ -6,13 +6,10 @@ use mathlib.Core.List.{List, [], _∷_}
 use lib.Dec.{leb, ltb, eqb}
 use lib.ListN.{length}
 use Rattle.paper.specs.Lists.{at, has, from, below, all, any, within, _⇒_}
-use Rattle.paper.specs.Answers.{good}
 use Rattle.paper.specs.Table.{nodes, edges, kind, owner, lower, upper, target as targetOfEdge, isAction, isInput, isFork, isBuffer, isOutgoing}
-use Rattle.table.specs.Reading.{tableRead}
 use Rattle.table.specs.declared.Table.{Table}
-use Rattle.offers.specs.Sets.{Marks}
 use Rattle.pick_bounds.specs.Net.{meets, obeys, rivalsAt, ruleAt}
-use Rattle.ends_masks.specs.Seating.{Rowed, rivalled, kept, seats, served}
+use Rattle.ends_masks.specs.Seating.{rivalled, kept, seats, served}
 
 -- ---- a net as it grows
 -- the set c of m ends obeys the rivals of each end and the first k rules of a net
@@ -43,39 +40,11 @@ AddedUpto before k after r m q j = Added before k after r j m (onEach q (below j
 abbrev pub AddedFrom : List ℕ → ℕ → List ℕ → ℕ → ℕ → (ℕ → ℕ → Bool) → ℕ → ℕ → Type 0
 AddedFrom before k after r m q z j = Added before k after r (j - z) m (onEach q (from z (j - z)) ∷ [])
 
--- ---- what is lent for a call
-pub record Lent (t : List ℕ) (table : Table) (node parents makers foes ends edge target home runs stock : List ℕ) (rows n : ℕ) : Type 0 where
-  pub good-table : tableRead t ≡ good table
-  pub makers-of : Rowed ends n (length makers)
-  pub foes-of : Rowed ends n (length foes)
-  pub few-rows : rows ≤ 64
-  pub row-nodes : rows ≤ length node
-  pub row-parents : rows ≤ length parents
-  pub few-ends : n ≤ 20
-  pub end-edges : n ≤ length edge
-  pub end-targets : n ≤ length target
-  pub end-homes : n ≤ length home
-  pub node-runs : table .nodes ≤ length runs
-  pub node-stocks : table .nodes ≤ length stock
-
 -- what a good marking has: no stock is over its upper
 abbrev pub Roomy : List ℕ → List ℕ → Type 0
 Roomy t stock = (i : ℕ) → i < nodes t → isBuffer (kind t i) || isOutgoing (kind t i) ≡ true → at stock i ≤ upper t i
 
--- ---- masks of the ends by what a column says of them
--- word x marks the ends that have x in the column
-pub record Masked (column : List ℕ) (n : ℕ) (words : List ℕ) : Type 0 where
-  pub marks : (x : ℕ) → x < length words → Marks (λ k. eqb (at column k) x) n (at words x)
-
--- the masks of the three columns, a word for each edge and for each node of the table
-pub record Masks (table : Table) (edge target home : List ℕ) (n : ℕ) (byEdge byTarget byHome : List ℕ) : Type 0 where
-  pub edges-masked : Masked edge n byEdge
-  pub targets-masked : Masked target n byTarget
-  pub homes-masked : Masked home n byHome
-  pub edge-words : table .edges ≤ length byEdge
-  pub target-words : table .nodes ≤ length byTarget
-  pub home-words : table .nodes ≤ length byHome
-
+-- ---- the ends by what a column says of them
 -- no end has x in the column
 abbrev pub vacant : List ℕ → ℕ → ℕ → Bool
 vacant column n x = not (any (λ k. eqb (at column k) x) (below n))
@@ -93,12 +62,12 @@ pub record Bars (n w : ℕ) (p : ℕ → Bool) : Type 0 where
   pub says : (c : ℕ) → not (meets n c w) ≡ p c
 
 -- ---- what the rows say of the ends, and of the rows that leave a fork
-unfoldable pub clashKept : List ℕ → List ℕ → List ℕ → ℕ → ℕ → ℕ → Bool
-clashKept foes makers ends n k c = not (has c k && rivalled foes makers ends n c k)
+unfoldable pub clashKept : List ℕ → List ℕ → ℕ → ℕ → ℕ → Bool
+clashKept foes makers n k c = not (has c k && rivalled foes makers n c k)
 
-unfoldable pub forkKept : List ℕ → List ℕ → List ℕ → List ℕ → List ℕ → ℕ → ℕ → ℕ → ℕ → Bool
-forkKept t node parents makers ends rows n z c =
-    ltb (at node z) (nodes t) && isFork (kind t (at node z)) ⇒ kept node parents makers ends rows n c z
+unfoldable pub forkKept : List ℕ → List ℕ → List ℕ → List ℕ → ℕ → ℕ → ℕ → ℕ → Bool
+forkKept t node parents makers rows n z c =
+    ltb (at node z) (nodes t) && isFork (kind t (at node z)) ⇒ kept node parents makers rows n c z
 
 -- ---- what they say of the edges into actions
 module _ (t edge target home : List ℕ) (n : ℕ) where

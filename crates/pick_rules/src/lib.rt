@@ -5,16 +5,23 @@ ghost use mathlib.Core.Path.{_≡_};
 ghost use mathlib.Core.Bool.{true};
 ghost use mathlib.Core.List.{List, [], _∷_};
 ghost use Prim.Native.Nat.{ℕ, _+_, _-_, _%_, _^_, _≤_, _<_};
-ghost use lib.Bits.{bitOr};
 ghost use lib.Dec.{eqb};
 ghost use lib.ListN.{length, set};
-ghost use Rattle.paper.specs.Lists.{at, below};
+ghost use Rattle.paper.specs.Lists.{below};
 ghost use Rattle.paper.specs.Answers.{good};
-ghost use Rattle.table.specs.Reading.{tableRead, Blank};
+ghost use Rattle.table.specs.Reading.{tableRead};
 ghost use Rattle.pick_bounds.specs.Net.{rule, obeys};
-ghost use Rattle.ends_masks.specs.Seating.{Rowed, allowed};
-ghost use Rattle.pick_rules.specs.Rules.{holds, onEach, Starts, Added, AddedUpto, Lent, Roomy, Masked, Masks, Bars};
-ghost use Rattle.pick_rules.specs.Rules.{clashKept, forkKept, edgeRow, edgeBar, targetRow, nodeBar, destinationTests};
+ghost use Rattle.offers.specs.Struct.{Full};
+ghost use Rattle.marking_held.specs.MarkingHeld.{HeldLengths};
+ghost use Rattle.ends_masks.specs.Seating.{EndsFull, allowed};
+ghost use Rattle.choice_masks.specs.Masks.{Masks};
+ghost use Rattle.pick_rules.specs.Rules.{holds, onEach, Starts, Added, AddedUpto, Roomy, Bars};
+ghost use Rattle.pick_rules.specs.Rules.{clashKept, forkKept, edgeRow, edgeBar, targetRow, nodeBar, barsKept, destinationTests};
+use choice_masks::fill_masks;
+use choice_masks::owned;
+use ends_masks::Ends;
+use marking_held::Held;
+use offers::Offers;
 use pick_bounds::Rule;
 use table::Table;
 
@@ -86,37 +93,6 @@ fn no_rule() -> Rule
 
 // ---- masks of ends
 
-// End k, in the word of x.
-fn mark(masks: &mut [u32], x: usize, k: usize)
-    requires { ⌜ k < 32 ⌝ }
-    ensures { λ _. ⌜ now (masks .exit) ≡ set (now (masks .entry)) x (bitOr (at (now (masks .entry)) x) (2 ^ k)) ⌝ }
-{
-    if masks.len() <= x {
-        return;
-    }
-    masks[x] = masks[x] | words::end_of(k);
-}
-
-// For each number, the ends that have it in a column.
-fn fill_masks(masks: &mut [u32], column: &[u8], n: usize)
-    requires { ⌜ Blank (now masks) × (n ≤ length (now column)) × (n ≤ 20) ⌝ }
-    ensures { λ _. ⌜ Masked (now (column .entry)) n (now (masks .exit)) ⌝ }
-{
-    let mut k: usize = 0;
-    while k < n {
-        mark(masks, wire::wide(column[k]), k);
-        k += 1;
-    }
-}
-
-// The ends that belong to node i: those at it, and if it is an action those at its pins.
-fn owned(by_target: &[u32], by_home: &[u32], i: usize) -> u32
-    requires { ⌜ (i < length (now «by_target»)) × (i < length (now «by_home»)) ⌝ }
-    ensures { λ r. ⌜ r ≡ bitOr (at (now («by_target» .entry)) i) (at (now («by_home» .entry)) i) ⌝ }
-{
-    by_target[i] | by_home[i]
-}
-
 // Whether end k is the first of those in a word.
 fn leads(here: u32, k: usize) -> bool
     requires { ⌜ k < 32 ⌝ }
@@ -128,13 +104,13 @@ fn leads(here: u32, k: usize) -> bool
 // ---- rule 1
 
 // Each end is taken with none of its rivals. The cells past the last end bind no set of n ends, and are left as they are.
-pub fn fill_rivals(net: &mut [u32], foes: &[u64], makers: &[u64], ends: &[u8], n: usize)
-    requires { ⌜ (440 ≤ length (now net)) × Rowed (now ends) n (length (now makers)) × Rowed (now ends) n (length (now foes)) × (n ≤ 20) ⌝ }
-    ensures { λ _. ⌜ Starts (now (net .exit)) n (onEach (clashKept (now (foes .entry)) (now (makers .entry)) (now (ends .entry)) n) (below n) ∷ []) ⌝ }
+pub fn fill_rivals(net: &mut [u32], foes: &[u64], makers: &[u64], n: usize)
+    requires { ⌜ (440 ≤ length (now net)) × (n ≤ length (now foes)) × (n ≤ length (now makers)) × (n ≤ 20) ⌝ }
+    ensures { λ _. ⌜ Starts (now (net .exit)) n (onEach (clashKept (now (foes .entry)) (now (makers .entry)) n) (below n) ∷ []) ⌝ }
 {
     let mut k: usize = 0;
     while k < n {
-        net[k] = ends_masks::rivals(foes, makers, ends, n, k);
+        net[k] = ends_masks::rivals(foes, makers, n, k);
         k += 1;
     }
 }
@@ -148,13 +124,12 @@ fn fork_rule(
     node: &[u8],
     parents: &[u64],
     makers: &[u64],
-    ends: &[u8],
     rows: usize,
     n: usize,
     z: usize,
 ) -> Rule
-    requires { ⌜ (tableRead (now t) ≡ good table) × (rows ≤ length (now node)) × (rows ≤ length (now parents)) × Rowed (now ends) n (length (now makers)) × (rows ≤ 64) × (z < rows) × (n ≤ 20) ⌝ }
-    ensures { λ r. ⌜ ((c : ℕ) → obeys n r c ≡ forkKept (now (t .entry)) (now (node .entry)) (now (parents .entry)) (now (makers .entry)) (now (ends .entry)) rows n z c) ⌝ }
+    requires { ⌜ (tableRead (now t) ≡ good table) × (rows ≤ length (now node)) × (rows ≤ length (now parents)) × (n ≤ length (now makers)) × (rows ≤ 64) × (z < rows) × (n ≤ 20) ⌝ }
+    ensures { λ r. ⌜ ((c : ℕ) → obeys n r c ≡ forkKept (now (t .entry)) (now (node .entry)) (now (parents .entry)) (now (makers .entry)) rows n z c) ⌝ }
 {
     let i = wire::wide(node[z]);
     if table.nodes <= i {
@@ -164,8 +139,8 @@ fn fork_rule(
         return no_rule();
     }
     let family = ends_masks::family(node, parents, rows, z);
-    let kin = ends_masks::made(makers, ends, n, family);
-    let own = ends_masks::made(makers, ends, n, words::bit_of(z));
+    let kin = ends_masks::made(makers, n, family);
+    let own = ends_masks::made(makers, n, words::bit_of(z));
     Rule {
         when: kin,
         only: own,
@@ -180,21 +155,21 @@ pub fn add_forks(
     count: usize,
     t: &[u8],
     table: Table,
-    node: &[u8],
-    parents: &[u64],
-    makers: &[u64],
-    ends: &[u8],
-    rows: usize,
-    n: usize,
+    offers: Offers,
+    ends: Ends,
 ) -> usize
-    requires { ⌜ (count + rows ≤ 105) × (440 ≤ length (now net)) × (tableRead (now t) ≡ good table) × (rows ≤ length (now node)) × (rows ≤ length (now parents)) × Rowed (now ends) n (length (now makers)) × (rows ≤ 64) × (n ≤ 20) ⌝ }
-    ensures { λ r. ⌜ AddedUpto (now (net .entry)) count (now (net .exit)) r n (forkKept (now (t .entry)) (now (node .entry)) (now (parents .entry)) (now (makers .entry)) (now (ends .entry)) rows n) rows ⌝ }
+    requires { ⌜ (count + offers .count ≤ 105) × (440 ≤ length (now net)) × (tableRead (now t) ≡ good table) × Full offers × EndsFull ends ⌝ }
+    ensures { λ r. ⌜ AddedUpto (now (net .entry)) count (now (net .exit)) r (ends .count) (forkKept (now (t .entry)) (offers .node) (offers .parents) (ends .makers) (offers .count) (ends .count)) (offers .count) ⌝ }
 {
+    let node = offers.node;
+    let parents = offers.parents;
+    let makers = ends.makers;
+    let rows = offers.count;
     let mut r = count;
     let mut z = rows;
     while 0 < z {
         z -= 1;
-        let new = fork_rule(t, table, node, parents, makers, ends, rows, n, z);
+        let new = fork_rule(t, table, &node, &parents, &makers, rows, ends.count, z);
         r = add(net, r, new);
     }
     r
@@ -425,28 +400,69 @@ fn barred_at_nodes(t: &[u8], table: Table, by_target: &[u32], by_home: &[u32], r
 
 // ---- rule 3: all of it
 
-// The rows of edges and of targets, and one for all ends that can't be taken.
-fn add_masked(
+// The ends that can't be taken.
+fn barred(
+    t: &[u8],
+    table: Table,
+    by_edge: &[u32],
+    by_target: &[u32],
+    by_home: &[u32],
+    runs: &[u8],
+) -> u32
+    requires { ⌜ (tableRead (now t) ≡ good table) × (table .edges ≤ length (now «by_edge»)) × (table .nodes ≤ length (now «by_target»)) × (table .nodes ≤ length (now «by_home»)) × (table .nodes ≤ length (now runs)) ⌝ }
+    ensures { λ r. ⌜ ((edge target home stock : List ℕ) (n : ℕ) → Masks table edge target home n (now («by_edge» .entry)) (now («by_target» .entry)) (now («by_home» .entry)) → Bars n r (barsKept (now (t .entry)) edge target home (now (runs .entry)) stock n)) ⌝ }
+{
+    barred_at_edges(t, table, by_edge, by_target, by_home)
+        | barred_at_nodes(t, table, by_target, by_home, runs)
+}
+
+// Destinations fit: the rows of edges and of targets, and one for all ends that can't be taken. What each edge and each node has of ends is found once.
+pub fn add_destinations(
     net: &mut [u32],
     count: usize,
     t: &[u8],
     table: Table,
-    edge: &[u8],
-    target: &[u8],
-    by_edge: &[u32],
-    by_target: &[u32],
-    by_home: &[u32],
-    n: usize,
-    runs: &[u8],
-    stock: &[u8],
+    ends: Ends,
+    held: Held,
 ) -> usize
-    requires { ⌜ (count ≤ 64) × (440 ≤ length (now net)) × (tableRead (now t) ≡ good table) × (n ≤ 20) × (n ≤ length (now edge)) × (n ≤ length (now target)) × (table .edges ≤ length (now «by_edge»)) × (table .nodes ≤ length (now «by_target»)) × (table .nodes ≤ length (now «by_home»)) × (table .nodes ≤ length (now runs)) × (table .nodes ≤ length (now stock)) ⌝ }
-    ensures { λ r. ⌜ ((home : List ℕ) → Masks table (now (edge .entry)) (now (target .entry)) home n (now («by_edge» .entry)) (now («by_target» .entry)) (now («by_home» .entry)) → Added (now (net .entry)) count (now (net .exit)) r 41 n (destinationTests (now (t .entry)) (now (edge .entry)) (now (target .entry)) home (now (runs .entry)) (now (stock .entry)) n)) ⌝ }
+    requires { ⌜ (count ≤ 64) × (440 ≤ length (now net)) × (tableRead (now t) ≡ good table) × EndsFull ends × HeldLengths held ⌝ }
+    ensures { λ r. ⌜ Added (now (net .entry)) count (now (net .exit)) r 41 (ends .count) (destinationTests (now (t .entry)) (ends .edge) (ends .target) (ends .home) (held .runs) (held .kept) (ends .count)) ⌝ }
 {
-    let edges = add_edges(net, count, t, table, edge, by_edge, by_target, by_home, n);
-    let targets = add_targets(net, edges, t, table, target, by_target, by_home, stock, n);
-    let barred = barred_at_edges(t, table, by_edge, by_target, by_home)
-        | barred_at_nodes(t, table, by_target, by_home, runs);
+    let edge = ends.edge;
+    let target = ends.target;
+    let home = ends.home;
+    let runs = held.runs;
+    let kept = held.kept;
+    let n = ends.count;
+    let mut by_edge = [0u32; Table::MOST_EDGES];
+    let mut by_target = [0u32; Table::MOST_NODES];
+    let mut by_home = [0u32; Table::MOST_NODES];
+    fill_masks(&mut by_edge, &edge, n);
+    fill_masks(&mut by_target, &target, n);
+    fill_masks(&mut by_home, &home, n);
+    let edges = add_edges(
+        net,
+        count,
+        t,
+        table,
+        &edge,
+        &by_edge,
+        &by_target,
+        &by_home,
+        n,
+    );
+    let targets = add_targets(
+        net,
+        edges,
+        t,
+        table,
+        &target,
+        &by_target,
+        &by_home,
+        &kept,
+        n,
+    );
+    let barred = barred(t, table, &by_edge, &by_target, &by_home, &runs);
     add(
         net,
         targets,
@@ -459,66 +475,21 @@ fn add_masked(
     )
 }
 
-// Destinations fit: what each edge and each node has of ends is found once, for all rows.
-pub fn add_destinations(
-    net: &mut [u32],
-    count: usize,
-    t: &[u8],
-    table: Table,
-    edge: &[u8],
-    target: &[u8],
-    home: &[u8],
-    n: usize,
-    runs: &[u8],
-    stock: &[u8],
-) -> usize
-    requires { ⌜ (count ≤ 64) × (440 ≤ length (now net)) × (tableRead (now t) ≡ good table) × (n ≤ 20) × (n ≤ length (now edge)) × (n ≤ length (now target)) × (n ≤ length (now home)) × (table .nodes ≤ length (now runs)) × (table .nodes ≤ length (now stock)) ⌝ }
-    ensures { λ r. ⌜ Added (now (net .entry)) count (now (net .exit)) r 41 n (destinationTests (now (t .entry)) (now (edge .entry)) (now (target .entry)) (now (home .entry)) (now (runs .entry)) (now (stock .entry)) n) ⌝ }
-{
-    let mut by_edge = [0u32; Table::MOST_EDGES];
-    let mut by_target = [0u32; Table::MOST_NODES];
-    let mut by_home = [0u32; Table::MOST_NODES];
-    fill_masks(&mut by_edge, edge, n);
-    fill_masks(&mut by_target, target, n);
-    fill_masks(&mut by_home, home, n);
-    add_masked(
-        net,
-        count,
-        t,
-        table,
-        edge,
-        target,
-        &by_edge,
-        &by_target,
-        &by_home,
-        n,
-        runs,
-        stock,
-    )
-}
-
 // The net of a call: how many rules it has.
 pub fn fill(
     net: &mut [u32],
     t: &[u8],
     table: Table,
-    node: &[u8],
-    parents: &[u64],
-    makers: &[u64],
-    foes: &[u64],
-    rows: usize,
-    ends: &[u8],
-    edge: &[u8],
-    target: &[u8],
-    home: &[u8],
-    n: usize,
-    runs: &[u8],
-    stock: &[u8],
+    offers: Offers,
+    ends: Ends,
+    held: Held,
 ) -> usize
-    requires { ⌜ (440 ≤ length (now net)) × Lent (now t) table (now node) (now parents) (now makers) (now foes) (now ends) (now edge) (now target) (now home) (now runs) (now stock) rows n ⌝ }
-    ensures { λ r. ⌜ (r ≤ 105) × (Roomy (now (t .entry)) (now (stock .entry)) → (c : ℕ) → holds (now (net .exit)) r n c ≡ allowed (now (t .entry)) (now (node .entry)) (now (parents .entry)) (now (makers .entry)) (now (foes .entry)) (now (ends .entry)) (now (edge .entry)) (now (target .entry)) (now (home .entry)) (now (runs .entry)) (now (stock .entry)) rows n c) ⌝ }
+    requires { ⌜ (440 ≤ length (now net)) × (tableRead (now t) ≡ good table) × Full offers × EndsFull ends × HeldLengths held ⌝ }
+    ensures { λ r. ⌜ (r ≤ 105) × (Roomy (now (t .entry)) (held .kept) → (c : ℕ) → holds (now (net .exit)) r (ends .count) c ≡ allowed (now (t .entry)) offers ends (held .runs) (held .kept) c) ⌝ }
 {
-    fill_rivals(net, foes, makers, ends, n);
-    let forks = add_forks(net, 0, t, table, node, parents, makers, ends, rows, n);
-    add_destinations(net, forks, t, table, edge, target, home, n, runs, stock)
+    let foes = ends.foes;
+    let makers = ends.makers;
+    fill_rivals(net, &foes, &makers, ends.count);
+    let forks = add_forks(net, 0, t, table, offers, ends);
+    add_destinations(net, forks, t, table, ends, held)
 }

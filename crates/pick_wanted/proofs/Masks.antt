@@ -1,29 +1,22 @@
 -- Masks of the ends that pass, and of those that belong to a node. Assumes nothing.
-use mathlib.Core.Path.{_≡_, sym, ap, ap₂, _∙_}
+use mathlib.Core.Path.{_≡_, sym, ap, _∙_}
 use mathlib.Core.Bool.{Bool, not, _&&_, _||_}
 use mathlib.Core.List.{List}
 use Prim.Native.Nat.{ℕ, _<_}
 use native.Mathlib.Omega.{arith}
-use lib.Dec.{leb, eqb}
-use lib.Bits.{bitOr, or-lt}
+use lib.Dec.{leb}
 use borrow.Author.Tests.{ne-eqb, le-leb}
-use Rattle.paper.specs.Lists.{at, has, below, any, count}
+use Rattle.paper.specs.Lists.{has, below, any, count}
 use Rattle.paper.specs.Operations.{named}
-use Rattle.paper.proofs.Bits.{has-or}
 use Rattle.paper.proofs.Counts.{count-below-same}
 use Rattle.offers.specs.Sets.{Marks}
 use Rattle.pick_bounds.specs.Net.{meets, held, inBoth}
 use Rattle.pick_bounds.proofs.Sets.{meets-held}
+use Rattle.choice_masks.specs.Masks.{Owned}
 use Rattle.ends_masks.specs.Seating.{served}
 use Rattle.ends_masks.proofs.Numbers.{any-below-alike}
 
 -- ---- a mask of the ends that pass
-pub marks-or : {p q : ℕ → Bool} {n a b : ℕ} → Marks p n a → Marks q n b → Marks (λ k. p k || q k) n (bitOr a b)
-marks-or {p} {q} {n} {a} {b} x y = record {
-  small = or-lt n a b (x .small) (y .small);
-  says = λ k l. has-or a b k ∙ ap₂ (λ (u v : Bool). u || v) (x .says k l) (y .says k l);
-}
-
 module _ {p : ℕ → Bool} {n w : ℕ} (h : Marks p n w) (c : ℕ) where
   alike : (k : ℕ) → k < n → inBoth c w k ≡ has c k && p k
   alike k l = ap (λ (b : Bool). has c k && b) (h .says k l)
@@ -35,9 +28,6 @@ module _ {p : ℕ → Bool} {n w : ℕ} (h : Marks p n w) (c : ℕ) where
   pub held-marks : held n c w ≡ count (λ k. has c k && p k) (below n)
   unfolding held
   held-marks = count-below-same (inBoth c w) (λ k. has c k && p k) n alike
-
-abbrev pub Owned : List ℕ → List ℕ → ℕ → ℕ → ℕ → Type 0
-Owned target home n i w = Marks (λ k. eqb (at target k) i || eqb (at home k) i) n w
 
 pub meets-served : (target home : List ℕ) (n i w c : ℕ) → Owned target home n i w → meets n c w ≡ served target home n c i
 unfolding served

@@ -1,10 +1,9 @@
 -- What start answers on a table that was read: nothing is held, and what is delivered is the paper's. Assumes nothing.
 use mathlib.Core.Path.{_≡_, refl, sym, ap}
 use mathlib.Core.Bool.{Bool, true, false, _&&_}
-use mathlib.Core.List.{List}
+use mathlib.Core.List.{List, []}
 use Prim.Native.Nat.{ℕ, _<_}
 use lib.ListN.{length}
-use native.Mathlib.Omega.{arith}
 use lib.Dec.{eqb}
 use borrow.Author.Tests.{eqb-true}
 use Rattle.paper.specs.Lists.{below, keep}
@@ -17,10 +16,13 @@ use Rattle.paper.proofs.Bools.{and-true}
 use Rattle.paper.proofs.Lists.{keep-same}
 use Rattle.paper.proofs.Tables.{GoodTable}
 use Rattle.table.specs.declared.Table.{Table}
-use Rattle.table.specs.Reading.{tableRead, Blank}
+use Rattle.table.specs.Reading.{tableRead}
 use Rattle.table.proofs.Reading.{read-fine, read-good}
 use Rattle.marking.specs.Values.{isListed, listedNodes}
-use Rattle.marking_give.specs.Giving.{Fires, giveOf}
+use Rattle.marking_held.specs.declared.Held.{Held}
+use Rattle.marking_held.specs.MarkingHeld.{NothingHeld}
+use Rattle.marking_held.proofs.HeldLaws.{nothing-held}
+use Rattle.marking_give.specs.Giving.{giveOf}
 use Rattle.start_finish.specs.Delivered.{Deliverable, delivered}
 
 -- an incoming parameter belongs to none
@@ -42,31 +44,24 @@ module _ (t b : List ℕ) (x : Table) (e : tableRead t ≡ good x) where
   start-delivers = rw (read-fine t e, start-is)
 
   -- nothing is held, and incoming parameters are object nodes
-  pub start-ready : (from kept runs tokens fire : List ℕ) → Blank from → Blank kept → Blank runs → Blank tokens → Fires t (λ i. eqb (kind t i) 1) fire
-      → Deliverable t 6 255 b from kept runs tokens fire
-  start-ready from kept runs tokens fire zf zk zr zt f = record {
-    fires = λ i. eqb (kind t i) 1;
-    held = blank false;
+  pub start-ready : (y : Held) → NothingHeld y → Deliverable t 6 255 b y
+  start-ready y n = record {
+    current = blank false;
     live = refl;
-    ready = record {
-      nodes-held = record {
-        stocks = λ i l o. record { many = zk i; stand = rw (zk i) refl; inside = omega (arith, zf i, zk i) };
-        running = λ i l r. zr i;
-      };
-      counts-held = record { edges-held = record { counts = λ j l c. zt j }; none = λ e l h. refl };
+    givable = record {
+      held = nothing-held y n t b [] false;
       no-stock = λ i h. refl;
+      no-count = λ e l h. refl;
       for-stocks = λ i h. ap isObjectNode (eqb-true (kind t i) 6 (and-true (eqb (kind t i) 6) _ h .0));
-      firing = f;
     };
   }
 
-  pub start-leaves : (from kept runs tokens fire : List ℕ) (zf : Blank from) (zk : Blank kept) (zr : Blank runs) (zt : Blank tokens) (f : Fires t (λ i. eqb (kind t i) 1) fire)
-      (w : ℕ) (out after : List ℕ)
-      → ((d : Deliverable t 6 255 b from kept runs tokens fire) → Reply (inRoom (length out) (delivered t 6 255 (d .fires) (d .held) b)) w out after)
+  pub start-leaves : (y : Held) (n : NothingHeld y) (w : ℕ) (out after : List ℕ)
+      → ((d : Deliverable t 6 255 b y) → Reply (inRoom (length out) (delivered t 6 255 (λ i. eqb (kind t i) 1) (d .current) b)) w out after)
       → Leaves (Only (start t b)) w out after
   unfolding start-ready
-  start-leaves from kept runs tokens fire zf zk zr zt f w out after h = record {
+  start-leaves y n w out after h = record {
     answer = delivered t 6 255 (λ i. eqb (kind t i) 1) (blank false) b;
     allowed = sym start-delivers;
-    reply = h (start-ready from kept runs tokens fire zf zk zr zt f);
+    reply = h (start-ready y n);
   }

@@ -5,7 +5,8 @@ use mathlib.Core.Bool.{Bool, false}
 use mathlib.Core.List.{List}
 use Rattle.paper.specs.Answers.{Answer, good, _>>=_}
 use Rattle.paper.specs.Marking.{Marking, encode}
-use Rattle.marking_give.specs.Giving.{giveOf, Ready}
+use Rattle.marking_held.specs.declared.Held.{Held}
+use Rattle.marking_give.specs.Giving.{giveOf, Givable}
 
 -- the marking after the lists of b are appended and the tokens handed out, as bytes
 unfoldable pub delivered : List ℕ → ℕ → ℕ → (ℕ → Bool) → Marking → List ℕ → Answer (List ℕ)
@@ -13,9 +14,8 @@ delivered t k o fires m b = do
   m′ ← giveOf t k o fires m b
   good (encode t m′)
 
--- a marking that the slices say and that has not ended, and the nodes that fire
-pub record Deliverable (t : List ℕ) (k o : ℕ) (old from kept runs tokens fire : List ℕ) : Type 0 where
-  pub fires : ℕ → Bool
-  pub held : Marking
-  pub live : held .ended ≡ false
-  pub ready : Ready t k o fires held old from kept runs tokens fire
+-- a marking that is held, has not ended and can be given to
+pub record Deliverable (t : List ℕ) (k o : ℕ) (old : List ℕ) (x : Held) : Type 0 where
+  pub current : Marking
+  pub live : current .ended ≡ false
+  pub givable : Givable t k o current old x

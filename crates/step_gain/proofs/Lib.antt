@@ -1,2 +1,4 @@
--- Laws of the values that come.
+-- Laws of the values that come, of the nodes that are touched, and of what is held then.
 pub mod Gaining
+pub mod Touching
+pub mod GainedHeld

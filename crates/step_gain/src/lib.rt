@@ -1,158 +1,207 @@
 // "Then destinations gain, in end order: values append to pins, buffers and parameters, and actions run. Finals drop what arrives."
 // The values that come to a node stand one behind another in a slice of their own. A final has no stock, so nobody looks at what came to it.
+// The nodes at which something is taken are marked first, and only they are asked. Loops take the columns of the ends as lent slices.
+use ends_masks::Ends;
+use marking_held::Held;
 use table::Table;
 ghost use mathlib.Core.Path.{_≡_};
-ghost use mathlib.Core.Bool.{not, _&&_, cond};
-ghost use Prim.Native.Nat.{_+_, _*_, _≤_, _<_};
+ghost use mathlib.Core.Bool.{Bool, not, _&&_, _||_};
+ghost use mathlib.Core.List.{List, []};
+ghost use Prim.Native.Nat.{ℕ, _+_, _*_, _≤_, _<_};
 ghost use lib.Dec.{eqb};
 ghost use lib.ListN.{length};
 ghost use lib.Seq.{sets};
 ghost use Rattle.paper.specs.Lists.{at, has, gather};
 ghost use Rattle.paper.specs.Bytes.{four};
+ghost use Rattle.paper.specs.Limits.{limits};
+ghost use Rattle.paper.specs.Table.{kind, isAction};
+ghost use Rattle.paper.specs.Marking.{Marking};
+ghost use Rattle.words.specs.Marks.{MarksOf, isMarked, placed};
 ghost use Rattle.table.specs.Reading.{Spans};
-ghost use Rattle.ends_masks.specs.Seating.{Rowed};
-ghost use Rattle.marking_held.specs.Filling.{Filled};
-ghost use Rattle.step_gain.specs.Gains.{brought, coming, Brought, starts};
+ghost use Rattle.offers.specs.Sets.{Marks};
+ghost use Rattle.ends_masks.specs.Seating.{Rowed, EndsFull, served};
+ghost use Rattle.marking_held.specs.MarkingHeld.{HeldLengths, MarkingHeld};
+ghost use Rattle.step_gain.specs.Gains.{goesTo, brought, coming, gainedBy, starts, startedBy};
 
 // Room for the values of 20 ends.
 pub const ROOM: usize = 80;
 
-// Whether end k is taken, goes to node i and has a value.
-fn brings_value(target: &[u8], valued: &[u8], ends: &[u8], c: u32, i: usize, k: usize) -> bool
-    requires { ⌜ (k < length (now target)) × (k < length (now ends)) × (at (now ends) k < length (now valued)) × (k < 32) ⌝ }
-    ensures { λ r. ⌜ r ≡ has c k && eqb (at (now (target .entry)) k) i && not (eqb (at (now (valued .entry)) (at (now (ends .entry)) k)) 0) ⌝ }
+// ---- the values that come
+
+// Whether end k is taken and has a value.
+fn brings_value(valued: &[u8], row: &[u8], c: u32, k: usize) -> bool
+    requires { ⌜ (k < length (now row)) × (at (now row) k < length (now valued)) × (k < 32) ⌝ }
+    ensures { λ r. ⌜ r ≡ has c k && not (eqb (at (now (valued .entry)) (at (now (row .entry)) k)) 0) ⌝ }
 {
     if !choice::is_taken(c, k) {
         return false;
     }
-    if wire::wide(target[k]) != i {
+    valued[wire::wide(row[k])] != 0
+}
+
+// The ends that are taken and have a value.
+pub fn bringing(valued: &[u8], row: &[u8], n: usize, c: u32) -> u32
+    requires { ⌜ Rowed (now row) n (length (now valued)) × (n ≤ 20) ⌝ }
+    ensures { λ r. ⌜ Marks (λ k. has c k && not (eqb (at (now (valued .entry)) (at (now (row .entry)) k)) 0)) n r ⌝ }
+{
+    let mut w: u32 = 0;
+    let mut k: usize = 0;
+    while k < n {
+        if brings_value(valued, row, c, k) {
+            w = w | words::end_of(k);
+        }
+        k += 1;
+    }
+    w
+}
+
+// Whether end k is of the word w and goes to node i.
+fn goes_to(target: &[u8], w: u32, i: usize, k: usize) -> bool
+    requires { ⌜ (k < length (now target)) × (k < 32) ⌝ }
+    ensures { λ r. ⌜ r ≡ goesTo (now (target .entry)) w i k ⌝ }
+{
+    if !choice::is_taken(w, k) {
         return false;
     }
-    valued[wire::wide(ends[k])] != 0
+    wire::wide(target[k]) == i
 }
 
 // The value that end k brings to node i, at a place; and how many that is, 1 or 0.
 fn gain_end(
     target: &[u8],
-    valued: &[u8],
+    row: &[u8],
     value: &[u32],
-    ends: &[u8],
-    c: u32,
+    w: u32,
     i: usize,
     k: usize,
     extra: &mut [u8],
     place: usize,
 ) -> usize
-    requires { ⌜ (k < length (now target)) × (k < length (now ends)) × (at (now ends) k < length (now valued)) × (at (now ends) k < length (now value)) × (k < 32) × (place + 4 * length (brought (now target) (now valued) (now value) (now ends) c i k) ≤ length (now extra)) ⌝ }
-    ensures { λ r. ⌜ (r ≡ length (brought (now (target .entry)) (now (valued .entry)) (now (value .entry)) (now (ends .entry)) c i k)) × (now (extra .exit) ≡ sets (now (extra .entry)) place (gather four (brought (now (target .entry)) (now (valued .entry)) (now (value .entry)) (now (ends .entry)) c i k))) ⌝ }
+    requires { ⌜ (k < length (now target)) × (k < length (now row)) × (at (now row) k < length (now value)) × (k < 32) × (place + 4 * length (brought (now target) (now row) (now value) w i k) ≤ length (now extra)) ⌝ }
+    ensures { λ r. ⌜ (r ≡ length (brought (now (target .entry)) (now (row .entry)) (now (value .entry)) w i k)) × (now (extra .exit) ≡ sets (now (extra .entry)) place (gather four (brought (now (target .entry)) (now (row .entry)) (now (value .entry)) w i k))) ⌝ }
 {
-    if !brings_value(target, valued, ends, c, i, k) {
+    if !goes_to(target, w, i, k) {
         return 0;
     }
-    wire::write32(extra, place, value[wire::wide(ends[k])]);
+    wire::write32(extra, place, value[wire::wide(row[k])]);
     1
 }
 
 // The values that come to node i, from a place on; and how many they are.
 fn gain_node(
     target: &[u8],
-    valued: &[u8],
+    row: &[u8],
     value: &[u32],
-    ends: &[u8],
+    w: u32,
     n: usize,
-    c: u32,
     i: usize,
     extra: &mut [u8],
     place: usize,
 ) -> usize
-    requires { ⌜ (n ≤ 20) × (n ≤ length (now target)) × Rowed (now ends) n (length (now valued)) × Rowed (now ends) n (length (now value)) × (place + 4 * length (coming (now target) (now valued) (now value) (now ends) c n i) ≤ length (now extra)) ⌝ }
-    ensures { λ r. ⌜ (r ≡ length (coming (now (target .entry)) (now (valued .entry)) (now (value .entry)) (now (ends .entry)) c n i)) × (now (extra .exit) ≡ sets (now (extra .entry)) place (gather four (coming (now (target .entry)) (now (valued .entry)) (now (value .entry)) (now (ends .entry)) c n i))) ⌝ }
+    requires { ⌜ (n ≤ 20) × (n ≤ length (now target)) × Rowed (now row) n (length (now value)) × (place + 4 * length (coming (now target) (now row) (now value) w n i) ≤ length (now extra)) ⌝ }
+    ensures { λ r. ⌜ (r ≡ length (coming (now (target .entry)) (now (row .entry)) (now (value .entry)) w n i)) × (now (extra .exit) ≡ sets (now (extra .entry)) place (gather four (coming (now (target .entry)) (now (row .entry)) (now (value .entry)) w n i))) ⌝ }
 {
     let mut many: usize = 0;
     let mut k: usize = 0;
     while k < n {
-        many += gain_end(
-            target,
-            valued,
-            value,
-            ends,
-            c,
-            i,
-            k,
-            extra,
-            place + 4 * many,
-        );
+        many += gain_end(target, row, value, w, i, k, extra, place + 4 * many);
         k += 1;
     }
     many
 }
 
-// The values that come to each node, and where they stand.
-pub fn gain_nodes(
-    table: Table,
-    target: &[u8],
-    valued: &[u8],
-    value: &[u32],
-    ends: &[u8],
-    n: usize,
-    c: u32,
-    extra: &mut [u8],
-    place: &mut [usize],
-    more: &mut [u8],
-)
-    requires { ⌜ (n ≤ 20) × (n ≤ length (now target)) × Rowed (now ends) n (length (now valued)) × Rowed (now ends) n (length (now value)) × (80 ≤ length (now extra)) × (table .nodes ≤ length (now place)) × (table .nodes ≤ length (now more)) ⌝ }
-    ensures { λ _. ⌜ Brought (now (target .entry)) (now (valued .entry)) (now (value .entry)) (now (ends .entry)) c n (table .nodes) (now (extra .exit)) (now (place .exit)) (now (more .exit)) ⌝ }
+// Marks the nodes that the taken ends have in a column.
+fn mark_column(column: &[u8], n: usize, c: u32, marks: &mut [u8])
+    requires { ⌜ (n ≤ length (now column)) × (n ≤ 20) ⌝ }
+    ensures { λ _. ⌜ ((p : ℕ → Bool) (most : ℕ) → most ≤ length (now (marks .entry)) → MarksOf p most (now (marks .entry)) → MarksOf (λ i. p i || placed (has c) (at (now (column .entry))) n i) most (now (marks .exit))) ⌝ }
 {
+    let mut k: usize = 0;
+    while k < n {
+        words::mark(marks, choice::is_taken(c, k), wire::wide(column[k]));
+        k += 1;
+    }
+}
+
+// What is held after the values of the ends of the word w came, which are stored in `extra`. Nothing came before.
+pub fn gain(
+    table: Table,
+    ends: Ends,
+    value: &[u32],
+    w: u32,
+    extra: &mut [u8],
+    mut held: Held,
+) -> Held
+    requires { ⌜ (table .nodes ≤ limits .mostNodes) × EndsFull ends × Rowed (ends .row) (ends .count) (length (now value)) × (80 ≤ length (now extra)) × HeldLengths held ⌝ }
+    ensures { λ r. ⌜ HeldLengths r × ((t : List ℕ) (m : Marking) (old : List ℕ) → Spans t table → ((i : ℕ) → i < table .nodes → length (m .stock i) ≤ limits .mostUpper)
+        → MarkingHeld t m old [] held → MarkingHeld t (gainedBy (coming (ends .target) (ends .row) (now (value .entry)) w (ends .count)) m) old (now (extra .exit)) r) ⌝ }
+{
+    let target = ends.target;
+    let row = ends.row;
+    let n = ends.count;
     let nodes = table.nodes;
+    let mut place = [0u16; Table::MOST_NODES];
+    let mut more = [0u8; Table::MOST_NODES];
+    let mut reached = [0u8; Table::MOST_NODES];
+    mark_column(&target, n, w, &mut reached);
     let mut to: usize = 0;
     let mut i: usize = 0;
     while i < nodes {
-        let many = gain_node(target, valued, value, ends, n, c, i, extra, to);
-        place[i] = to;
+        let mut many: usize = 0;
+        if reached[i] != 0 {
+            many = gain_node(&target, &row, value, w, n, i, extra, to);
+        }
+        place[i] = to as u16;
         more[i] = many as u8;
         to += 4 * many;
         i += 1;
     }
+    held.place = place;
+    held.more = more;
+    held
+}
+
+// ---- the actions that start
+
+// The nodes to which a taken end belongs, marked.
+fn touched_nodes(target: &[u8], home: &[u8], n: usize, c: u32) -> [u8; Table::MOST_NODES]
+    requires { ⌜ (n ≤ length (now target)) × (n ≤ length (now home)) × (n ≤ 20) ⌝ }
+    ensures { λ r. ⌜ MarksOf (served (now (target .entry)) (now (home .entry)) n c) (limits .mostNodes) r ⌝ }
+{
+    let mut touched = [0u8; Table::MOST_NODES];
+    mark_column(target, n, c, &mut touched);
+    mark_column(home, n, c, &mut touched);
+    touched
 }
 
 // Whether node i is an action that starts.
-fn is_started(
-    t: &[u8],
-    table: Table,
-    target: &[u8],
-    home: &[u8],
-    n: usize,
-    c: u32,
-    i: usize,
-) -> bool
-    requires { ⌜ Spans (now t) table × (i < table .nodes) × (n ≤ length (now target)) × (n ≤ length (now home)) × (n ≤ 20) ⌝ }
-    ensures { λ r. ⌜ r ≡ starts (now (t .entry)) (now (target .entry)) (now (home .entry)) n c i ⌝ }
+fn is_started(t: &[u8], table: Table, touched: &[u8], i: usize) -> bool
+    requires { ⌜ Spans (now t) table × (i < table .nodes) × (table .nodes ≤ length (now touched)) ⌝ }
+    ensures { λ r. ⌜ r ≡ isAction (kind (now (t .entry)) i) && isMarked (now (touched .entry)) i ⌝ }
 {
-    if table.kind(t, i) != Table::ACTION {
+    if touched[i] == 0 {
         return false;
     }
-    ends_masks::is_served(target, home, n, c, i)
+    table.kind(t, i) == Table::ACTION
 }
 
-// Actions to which a taken end belongs run.
-pub fn run_actions(
-    t: &[u8],
-    table: Table,
-    target: &[u8],
-    home: &[u8],
-    n: usize,
-    c: u32,
-    runs: &mut [u8],
-)
-    requires { ⌜ Spans (now t) table × (n ≤ length (now target)) × (n ≤ length (now home)) × (n ≤ 20) × (table .nodes ≤ length (now runs)) ⌝ }
-    ensures { λ _. ⌜ Filled (λ i. cond (starts (now (t .entry)) (now (target .entry)) (now (home .entry)) n c i) 1 (at (now (runs .entry)) i)) (now (runs .entry)) (now (runs .exit)) (table .nodes) ⌝ }
+// What is held after the actions started to which a taken end belongs.
+pub fn run(t: &[u8], table: Table, ends: Ends, c: u32, mut held: Held) -> Held
+    requires { ⌜ Spans (now t) table × EndsFull ends × HeldLengths held ⌝ }
+    ensures { λ r. ⌜ HeldLengths r × ((m : Marking) (old extra : List ℕ) → MarkingHeld (now (t .entry)) m old extra held
+        → MarkingHeld (now (t .entry)) (startedBy (starts (now (t .entry)) (ends .target) (ends .home) (ends .count) c) m) old extra r) ⌝ }
 {
-    let nodes = table.nodes;
+    let target = ends.target;
+    let home = ends.home;
+    let touched = touched_nodes(&target, &home, ends.count, c);
+    let n = table.nodes;
+    let mut runs = held.runs;
     let mut i: usize = 0;
-    while i < nodes {
-        if is_started(t, table, target, home, n, c, i) {
+    while i < n {
+        if is_started(t, table, &touched, i) {
             runs[i] = 1;
         }
         i += 1;
     }
+    held.runs = runs;
+    held
 }

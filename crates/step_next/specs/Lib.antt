@@ -1,2 +1,2 @@
--- The step, said of lent slices.
+-- The step, said of a marking that is held.
 pub mod Moves

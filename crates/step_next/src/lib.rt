@@ -1,59 +1,64 @@
-// The step: what a marking becomes when the ends of a choice are taken. The marking is described by lent slices, as `marking_write::reply` wants them, and
-// is changed there: first offers are spent, destinations gain, and an end at an activity final ends it.
+// The step: what a marking becomes when the ends of a choice are taken. First offers are spent, destinations gain, and an end at an activity final ends it.
+// The marking is held by value, its columns and those of the offers and the ends are lent to the parts.
 // Functions that read a table's fields require that its bytes were read as a table.
+use ends_masks::Ends;
+use marking_held::Held;
+use offers::Offers;
 use table::Table;
 ghost use mathlib.Core.Path.{_≡_};
-ghost use mathlib.Core.List.{List};
-ghost use Prim.Native.Nat.{ℕ};
-ghost use Rattle.paper.specs.Lists.{oneIf};
+ghost use mathlib.Core.Bool.{false};
+ghost use mathlib.Core.List.{List, []};
+ghost use Prim.Native.Nat.{ℕ, _≤_, _<_};
+ghost use lib.ListN.{length};
 ghost use Rattle.paper.specs.Answers.{good};
-ghost use Rattle.paper.specs.Offers.{Offer};
 ghost use Rattle.paper.specs.Choices.{Board, next};
 ghost use Rattle.table.specs.Reading.{tableRead};
-ghost use Rattle.offers.specs.declared.Offers.{Offers};
-ghost use Rattle.marking_write.specs.Writing.{Becomes, Sources};
-ghost use Rattle.step_next.specs.Moves.{Room, Lends, Ready};
+ghost use Rattle.offers.specs.Struct.{Full};
+ghost use Rattle.ends_masks.specs.Seating.{EndsFull, Stands};
+ghost use Rattle.marking_held.specs.MarkingHeld.{HeldLengths, MarkingHeld};
+ghost use Rattle.step_next.specs.Moves.{EndsWithin, Moved};
 
-// The choice c is taken. The answer is the state of the marking then: 0 live, 1 ended.
+// What is held after a step, and the state of the marking then: 0 live, 1 ended.
+pub struct Advanced {
+    pub held: Held,
+    pub ended: u8,
+}
+
+// The choice c is taken. The values that come are stored in `extra`.
 pub fn advance(
     t: &[u8],
     table: Table,
-    last: &[u8],
-    parents: &[u64],
-    makers: &[u64],
-    valued: &[u8],
-    value: &[u32],
-    rows: usize,
-    ends: &[u8],
-    target: &[u8],
-    home: &[u8],
-    n: usize,
+    offers: Offers,
+    ends: Ends,
     c: u32,
-    from: &mut [usize],
-    kept: &mut [u8],
-    runs: &mut [u8],
-    tokens: &mut [u8],
+    held: Held,
     extra: &mut [u8],
-    place: &mut [usize],
-    more: &mut [u8],
-) -> u8
-    requires { ⌜ (tableRead (now t) ≡ good table) × Room (now t) table (now last) (now parents) (now makers) (now valued) (now value) (now ends) (now target) (now home) (now from) (now kept) (now runs) (now tokens) (now extra) (now place) (now more) rows n ⌝ }
-    ensures { λ r. ⌜ ((d : Board) (o : Offers) (ts : List Offer) (b edge : List ℕ)
-        → Lends o (now (last .entry)) (now (parents .entry)) (now (makers .entry)) (now (valued .entry)) (now (value .entry)) rows
-        → Ready (now (t .entry)) d o ts b (now (ends .entry)) edge (now (target .entry)) (now (home .entry)) (now (from .entry)) (now (kept .entry)) (now (runs .entry)) (now (tokens .entry)) n
-        → Becomes (now (t .entry)) (next d c) b (now (from .exit)) (now (kept .exit)) (now (extra .exit)) (now (place .exit)) (now (more .exit)) (now (runs .exit)) (now (tokens .exit))
-        × Sources (now (t .entry)) b (now (from .exit)) (now (kept .exit)) (now (extra .exit)) (now (place .exit)) (now (more .exit)) (now (runs .exit)) (now (tokens .exit))
-        × (r ≡ oneIf (next d c .ended))) ⌝ }
+) -> Advanced
+    requires { ⌜ (tableRead (now t) ≡ good table) × Full offers × EndsFull ends × EndsWithin table ends × HeldLengths held × (80 ≤ length (now extra)) ⌝ }
+    ensures { λ r. ⌜ HeldLengths (r .held) × ((d : Board) (b : List ℕ) → Stands (now (t .entry)) d offers ends (held .runs) (held .kept) → d .current .ended ≡ false → length b < 65536
+        → MarkingHeld (now (t .entry)) (d .current) b [] held → Moved (now (t .entry)) (next d c) b (now (extra .exit)) r) ⌝ }
 {
-    let made = ends_masks::all_makers(makers, ends, n, c);
-    step_spend::spend_tokens(table, last, parents, rows, made, tokens);
-    step_spend::spend_stocks(t, table, last, parents, rows, made, from, kept);
-    step_gain::gain_nodes(table, target, valued, value, ends, n, c, extra, place, more);
-    step_gain::run_actions(t, table, target, home, n, c, runs);
-    if !step_close::is_closing(t, table, target, n, c) {
-        return 0;
+    let last = offers.last;
+    let parents = offers.parents;
+    let valued = offers.has;
+    let value = offers.value;
+    let makers = ends.makers;
+    let row = ends.row;
+    let target = ends.target;
+    let made = ends_masks::all_makers(&makers, ends.count, c);
+    let bringing = step_gain::bringing(&valued, &row, ends.count, c);
+    let spent = step_spend::spend(t, table, &last, &parents, offers.count, made, held);
+    let gained = step_gain::gain(table, ends, &value, bringing, extra, spent);
+    let running = step_gain::run(t, table, ends, c, gained);
+    if !step_close::is_closing(t, table, &target, ends.count, c) {
+        return Advanced {
+            held: running,
+            ended: 0,
+        };
     }
-    step_close::clear_nodes(t, table, kept, runs, more);
-    step_close::clear_edges(table, tokens);
-    1
+    let cleared = step_close::clear(t, table, running);
+    Advanced {
+        held: cleared,
+        ended: 1,
+    }
 }

@@ -1,2 +1,3 @@
 -- Laws of what is spent.
 pub mod Spends
+pub mod SpentHeld

@@ -1,2 +1,3 @@
 -- Laws that every reader of tables may cite.
 pub mod Reading
+pub mod Incoming

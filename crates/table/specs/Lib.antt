@@ -1,2 +1,3 @@
 -- What the readers of a table promise, in the paper's words.
 pub mod Reading
+pub mod Incoming

@@ -1,4 +1,4 @@
-// A table's bytes by their fields: the counts of a table, and accessors that every reader goes by.
+// A table's bytes by their fields: the counts of a table, accessors that every reader goes by, and the edges into each node as lists.
 // Assumes no more than its `requires`: functions that read fields ask that the bytes span the counts (`Spans`).
 ghost use mathlib.Core.Path.{_≡_};
 ghost use mathlib.Core.Bool.{_||_};
@@ -9,6 +9,7 @@ ghost use Rattle.paper.specs.Lists.{within};
 ghost use Rattle.paper.specs.Table.{header, nodes, edges, nodeAt, edgeAt, kind, owner, lower, upper, edgeKind, source, target, guarded};
 ghost use Rattle.paper.specs.Table.{isPin, isBuffer, isOutgoing, isObjectNode, isControlNode};
 ghost use Rattle.table.specs.Reading.{Spans};
+ghost use Rattle.table.specs.Incoming.{Incoming, Listable};
 
 // The counts of a table, whose bytes stand beside it.
 pub struct Table {
@@ -51,6 +52,9 @@ impl Table {
 
     // The owner of what is no pin.
     pub const NO_OWNER: usize = 255;
+
+    // What ends a list of edges.
+    pub const NO_EDGE: u8 = 255;
 
     // The kind of an object edge; that of a control edge is 0.
     pub const OBJECT: usize = 1;
@@ -197,4 +201,18 @@ pub fn is_control_node(k: usize) -> bool
     ensures { λ r. ⌜ r ≡ isControlNode k ⌝ }
 {
     within(Table::DECISION, Table::JOIN, k)
+}
+
+// The edges into each node, by number, as lists: `first` gets the first edge of each node, `next` behind each edge the one after it into the same node.
+pub fn list_incoming(t: &[u8], table: Table, first: &mut [u8], next: &mut [u8])
+    requires { ⌜ Listable (now t) table (now first) (now next) ⌝ }
+    ensures { λ _. ⌜ Incoming (now (t .entry)) (now (first .exit)) (now (next .exit)) ⌝ }
+{
+    let mut j = table.edges;
+    while 0 < j {
+        j -= 1;
+        let i = table.target(t, j);
+        next[j] = first[i];
+        first[i] = j as u8;
+    }
 }

@@ -1,65 +1,28 @@
--- Laws of row 4: marks and tallies one edge further, and the row by kind of node. They hold for any numbers of nodes and edges. Assumes nothing.
+-- Laws of row 4: tallies one edge further, and the row by kind of node. They hold for any numbers of nodes and edges. Assumes nothing.
 use mathlib.Core.Path.{_≡_, refl, sym, ap, ap₂, _∙_}
 use Prim.Native.Nat.{ℕ, zero, suc, _+_, _*_, _-_, _≤_, _<_}
 use native.Mathlib.Omega.{arith}
 use native.Mathlib.Nat.{zero-add, add-zero, add-assoc}
 use native.Mathlib.Numerals.{add-one}
-use mathlib.Core.Bool.{Bool, true, false, not, _&&_, _||_, or-true, or-false, or-comm, and-true, and-false}
+use mathlib.Core.Bool.{Bool, true, false, not, _&&_, _||_, or-comm, and-true, and-false}
 use mathlib.Core.Logic.{⊎-elim}
 use mathlib.Core.List.{List}
-use mathlib.Core.Option.{none}
-use lib.Dec.{leb, eqb}
+use lib.Dec.{eqb}
 use lib.ListN.{length, set, length-set}
 use lib.Seq.{getD-set-same, getD-set-other}
 use borrow.Author.Tests.{eqb-true, eqb-false, eq-eqb, ne-eqb}
 use Rattle.paper.specs.Lists.{at, below, any, keep, count, oneIf}
 use Rattle.paper.specs.Limits.{limits}
-use Rattle.paper.specs.Table.{nodes, edges, kind, owner, lower, isInput, isOutput, nodeFine, edgeKind, source, target, isObject, isControl, into, out, isControlNode, chain, degreesFine, oneKind, joinFine, actionFine, chainFine, shapeFine}
+use Rattle.paper.specs.Table.{nodes, edges, kind, edgeKind, source, target, isObject, isControl, into, out, isControlNode, chain, degreesFine, oneKind, joinFine, actionFine, chainFine, shapeFine}
 use Rattle.paper.proofs.Bools.{and-both, or-left, iff}
 use Rattle.paper.proofs.Bools.{and-true as and-true-both, or-true as or-true-cases}
-use Rattle.paper.proofs.Counts.{count-below, count-below-same, any-below, count-keep, length-count}
+use Rattle.paper.proofs.Counts.{count-below, count-below-same, count-keep, length-count}
 use Rattle.paper.proofs.Fuel.{no-longer}
-use Rattle.paper.proofs.Shapes.{all-object, all-control, pin-owner}
+use Rattle.paper.proofs.Shapes.{all-object, all-control}
 use Rattle.paper.proofs.Tables.{EdgeFields}
+use Rattle.words.proofs.Marks.{unmarked}
 use Rattle.table_shape.specs.declared.Degrees.{Degrees}
-use Rattle.table_shape.specs.Shape.{Counts, Tallied, Chained, leadsOn, marked, ofOneKind, splitFine, mergeFine, joinShape, actionShape}
-
--- ---- marks: one step further
-module _ (q : ℕ → Bool) (f : ℕ → ℕ) (m : List ℕ) (j a : ℕ) where
-  pub marked-more : (q j ≡ true → f j < length m) → at m a ≡ oneIf (any (λ x. q x && eqb (f x) a) (below j))
-      → at (marked m (q j) (f j)) a ≡ oneIf (any (λ x. q x && eqb (f x) a) (below (j + 1)))
-  marked-more inside h =
-      by (q j) (eqb (f j) a) inside refl
-      ∙ ap oneIf (sym (any-below (λ x. q x && eqb (f x) a) j))
-      ∙ ap (λ (n : ℕ). oneIf (any (λ x. q x && eqb (f x) a) (below n))) (sym (add-one j))
-    where
-      by : (b c : Bool) → (b ≡ true → f j < length m) → eqb (f j) a ≡ c
-          → at (marked m b (f j)) a ≡ oneIf (any (λ x. q x && eqb (f x) a) (below j) || b && c)
-      by true true l e =
-          let o = l refl in
-          let v = eqb-true (f j) a e in
-          rw v (getD-set-same m a 1 0 (omega arith) ∙ ap oneIf (sym (or-true (any (λ x. q x && eqb (f x) a) (below j)))))
-      by true false l e =
-          getD-set-other m (f j) a 1 0 (λ v. eqb-false (f j) a e (sym v))
-          ∙ h
-          ∙ ap oneIf (sym (or-false (any (λ x. q x && eqb (f x) a) (below j))))
-      by false c l e = h ∙ ap oneIf (sym (or-false (any (λ x. q x && eqb (f x) a) (below j))))
-
--- the marks of a pass over the numbers below j, each at f where q passes
-abbrev pub Marks : (ℕ → Bool) → (ℕ → ℕ) → ℕ → List ℕ → Type 0
-Marks q f j m = (a : ℕ) → at m a ≡ oneIf (any (λ x. q x && eqb (f x) a) (below j))
-
-pub marks-more : (q : ℕ → Bool) (f : ℕ → ℕ) (m m′ : List ℕ) (j : ℕ) (b : Bool) (i : ℕ) → m′ ≡ marked m b i → b ≡ q j → i ≡ f j
-    → (q j ≡ true → f j < length m) → Marks q f j m → Marks q f (j + 1) m′
-marks-more q f m m′ j b i e eb ei inside h a = rw (e, eb, ei) (marked-more q f m j a inside (h a))
-
-pub marks-done : (q : ℕ → Bool) (f : ℕ → ℕ) (m : List ℕ) (j n a : ℕ) (b : Bool) → Marks q f j m → j ≡ n
-    → any (λ x. q x && eqb (f x) a) (below n) ≡ b → at m a ≡ oneIf b
-marks-done q f m j n a b h e v = h a ∙ ap oneIf (ap (λ (y : ℕ). any (λ x. q x && eqb (f x) a) (below y)) e ∙ v)
-
--- a pin that feeds has an action
-pub feeder-owner : (t : List ℕ) (i : ℕ) → nodeFine t limits i ≡ true → isInput (kind t i) && leb 1 (lower t i) ≡ true → owner t i < nodes t
-feeder-owner t i h e = pin-owner t limits i h (or-left (isInput (kind t i)) (isOutput (kind t i)) (and-true-both (isInput (kind t i)) (leb 1 (lower t i)) e .0))
+use Rattle.table_shape.specs.Shape.{Counts, Tallied, Chained, leadsOn, ofOneKind, splitFine, mergeFine, joinShape, actionShape}
 
 -- ---- tallies: edge j counts in cell c
 abbrev pub hits : List ℕ → ℕ → ℕ → Bool
@@ -206,14 +169,6 @@ module _ (t : List ℕ) (i : ℕ) (free : chain t (limits .chainTooLong) i ≡ f
       sym (simp (ne-eqb (kind t i) 2 a, ne-eqb (kind t i) 8 d, ne-eqb (kind t i) 9 m, ne-eqb (kind t i) 10 f, ne-eqb (kind t i) 11 j, free))
 
 -- ---- what a mark says
-pub unmarked : (b : Bool) → oneIf b ≡ 0 → b ≡ false
-unmarked true e = absurd (omega arith)
-unmarked false e = refl
-
-pub is-marked : (b : Bool) → (oneIf b ≡ 0 → ⊥) → b ≡ true
-is-marked true e = refl
-is-marked false e = absurd (e refl)
-
 pub at-chain-end : (t : List ℕ) (i : ℕ) → chain t (limits .chainTooLong) i ≡ true → shapeFine t limits i ≡ false
 unfolding shapeFine chainFine
 at-chain-end t i e = simp (e, and-false)
@@ -227,7 +182,9 @@ leads t k j e = rw e (and-true (isControlNode (kind t (target t j))))
 
 -- a round without a mark settles every longer chain
 pub settled : (t marks : List ℕ) (k n : ℕ) → Chained t k marks → k ≤ n → ((i : ℕ) → i < nodes t → at marks i ≡ 0) → Chained t n marks
-settled t marks k n h l z i u =
-    let e : k + (n - k) ≡ n = omega arith in
-    let f : chain t n i ≡ false = rw e at (no-longer t k (n - k) i (unmarked (chain t k i) (sym (h i u) ∙ z i u))) in
-    z i u ∙ ap oneIf (sym f)
+settled t marks k n h l z = record {
+  tell = λ i u.
+      let e : k + (n - k) ≡ n = omega arith in
+      let f : chain t n i ≡ false = rw e at (no-longer t k (n - k) i (unmarked (chain t k i) (sym (h .tell i u) ∙ z i u))) in
+      z i u ∙ ap oneIf (sym f);
+}

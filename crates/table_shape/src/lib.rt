@@ -3,6 +3,7 @@
 use table::Found;
 use table::Table;
 use table::is_control_node;
+use words::mark;
 ghost use mathlib.Core.Path.{_≡_};
 ghost use mathlib.Core.Bool.{true, false, not, _&&_};
 ghost use mathlib.Core.List.{List};
@@ -13,7 +14,7 @@ ghost use Rattle.paper.specs.Lists.{at, lowest, oneIf};
 ghost use Rattle.paper.specs.Limits.{limits};
 ghost use Rattle.paper.specs.Table.{nodes, kind, lower, isInput, shapeFine, chain};
 ghost use Rattle.table.specs.Reading.{found, Spans, NodesFine, EdgesFine, Blank};
-ghost use Rattle.table_shape.specs.Shape.{Counts, degreesAt, Tallied, isFed, Fed, Chained, leadsOn, marked};
+ghost use Rattle.table_shape.specs.Shape.{Counts, degreesAt, Tallied, isFed, Fed, Chained, leadsOn};
 ghost use Rattle.table_shape.specs.Shape.{ofOneKind, splitFine, meetsIn, mergeFine, joinShape, actionShape};
 
 // How many edges of each kind stand on one side of a node.
@@ -74,16 +75,6 @@ fn tally(s: &[u8], table: Table, cells: &mut [u8])
     }
 }
 
-// A mark at i, if the test passes: a pass over nodes or edges hands on what it found.
-fn mark(marks: &mut [u8], on: bool, i: usize)
-    requires { ⌜ (on ≡ true → i < length (now marks)) ⌝ }
-    ensures { λ _. ⌜ now (marks .exit) ≡ marked (now (marks .entry)) on i ⌝ }
-{
-    if on {
-        marks[i] = 1;
-    }
-}
-
 // Whether node i is an input pin that must hold a value for its action to run.
 fn feeds(s: &[u8], table: Table, i: usize) -> bool
     requires { ⌜ Spans (now s) table × (i < table .nodes) ⌝ }
@@ -97,7 +88,7 @@ fn feeds(s: &[u8], table: Table, i: usize) -> bool
 
 // Marks the actions that an input pin feeds.
 fn mark_fed(s: &[u8], table: Table, fed: &mut [u8])
-    requires { ⌜ Spans (now s) table × NodesFine (now s) × (table .nodes ≤ length (now fed)) ⌝ }
+    requires { ⌜ Spans (now s) table × (table .nodes ≤ length (now fed)) ⌝ }
     ensures { λ _. ⌜ (Blank (now (fed .entry)) → Fed (now (s .entry)) (now (fed .exit))) ⌝ }
 {
     let n = table.nodes;

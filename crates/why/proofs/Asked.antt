@@ -10,10 +10,10 @@ use lib.ListN.{length, set, drop}
 use borrow.Author.Tests.{ne-eqb}
 use Rattle.paper.specs.Lists.{at, any, each, below}
 use Rattle.paper.specs.Limits.{limits}
-use Rattle.paper.specs.Answers.{good}
+use Rattle.paper.specs.Answers.{good, judgedBy, isGood}
 use Rattle.paper.specs.Table.{nodes}
 use Rattle.paper.specs.Offers.{Offer, first, lastEdge, belongs}
-use Rattle.paper.specs.Choices.{Board, howMany, end, takenEnds, agrees, FirstOf}
+use Rattle.paper.specs.Choices.{Board, howMany, end, takenEnds, rule1, rule2, agrees, FirstOf}
 use Rattle.paper.specs.Operations.{named, wanted, ownOf, levels, left, SomeLeft, NoneLeft, FirstEmpty, Reason, WhyIf, packed, inRoom, Reply, Leaves}
 use Rattle.paper.proofs.Bools.{never}
 use Rattle.paper.proofs.Calls.{reply-full}
@@ -22,71 +22,76 @@ use Rattle.paper.proofs.Levels.{first-next}
 use Rattle.paper.proofs.Members.{In, in-each, in-below}
 use Rattle.paper.proofs.Reasons.{EndsInside, own-inside, last-level, missing-first}
 use Rattle.paper.proofs.Tables.{GoodTable, table-good}
-use Rattle.offers.specs.Struct.{rowsOf}
-use Rattle.offers.specs.Sets.{nth}
 use Rattle.offers.specs.declared.Offers.{Offers}
 use Rattle.pick_search.specs.declared.Found.{Found}
 use Rattle.pick_search.specs.declared.Found.the-variants.{Choice, Nothing}
 use Rattle.pick_bounds.specs.Net.{held}
 use Rattle.pick_bounds.specs.declared.Wanted.{Wanted}
-use Rattle.ends_masks.specs.Seating.{Seated, Columns, served, fits, destinationsFit}
-use Rattle.ends_masks.proofs.Rules.{Told, served-rows, agrees-rows}
+use Rattle.ends_masks.specs.Seating.{Stands, served, fits, destinationsFit, noRivals, forksWhole}
+use Rattle.ends_masks.specs.declared.Ends.{Ends}
+use Rattle.ends_masks.proofs.Rules.{served-rows, agrees-rows}
 use Rattle.ends_masks.proofs.Allowed.{passes1, passes2}
-use Rattle.pick_rules.specs.Rules.{holds, Roomy}
-use Rattle.pick.specs.Picking.{Pickable, Answered}
+use Rattle.pick_rules.specs.Rules.{holds}
+use Rattle.pick_rules.proofs.Picking.{roomy}
+use Rattle.pick.specs.Picking.{Answered}
 use Rattle.pick.proofs.Laws.{answered-same}
-use Rattle.why.specs.Reasons.{Only}
+use Rattle.why.specs.Reasons.{asks, OwnEnds}
 use Rattle.why.proofs.Own.{own-no-pin, own-destinations}
-use Rattle.why.proofs.Nets.{asks}
 
 -- ---- a level on the board
-module _ (t : List ℕ) (d : Board) (o : Offers) (links : List ℕ) (ts : List Offer) (ends : List ℕ) (n : ℕ) (s : Seated t d (rowsOf o links) ts ends n)
-    (runs stock : List ℕ) (m : Told t (d .current) runs stock) (room : Roomy t stock) (edge target home : List ℕ) (k : Columns t (o .last) ends edge target home n)
-    (node : ℕ) (there : node < nodes t) (target′ home′ : List ℕ)
-    (by-target : Only target home n (ownOf t node) target′) (by-home : Only home home n (ownOf t node) home′) where
+module _ {t : List ℕ} {d : Board} {o : Offers} {es : Ends} {runs stock : List ℕ} (s : Stands t d o es runs stock)
+    (node : ℕ) (there : node < nodes t) (es′ : Ends) (w : OwnEnds es (ownOf t node) es′) where
   abbrev g : GoodTable t limits
-  g = table-good t limits (m .table-fine)
+  g = table-good t limits (s .told .table-fine)
 
   abbrev own : ℕ
   own = ownOf t node
 
   abbrev asked : List (ℕ → Bool)
-  asked = asks t (o .node) (o .parents) (o .makers) (o .foes) ends edge target′ home′ runs stock (o .count) n
+  asked = asks t o es′ runs stock
+
+  abbrev taken : ℕ → Bool
+  taken c = served (es .target) (es .home) (es .count) c node
 
   is-named : named node ≡ true
   is-named = ap not (ne-eqb node 255 (λ e. absurd (omega (arith, g .frame .nodes-fit))))
 
   module _ (c : ℕ) where
-    taken-end : any (belongs (d .table) node) (takenEnds d c) ≡ served target home n c node
-    taken-end = served-rows t d o links ts ends n c s edge target home k node
+    taken-end : any (belongs (d .table) node) (takenEnds d c) ≡ taken c
+    taken-end = served-rows t d o (s .links) (s .trees) es c (s .seated) node
 
-    own-rule : agrees d c (ownOf (d .table) node) ≡ destinationsFit t edge target′ home′ runs stock n c
+    own-rule : agrees d c (ownOf (d .table) node) ≡ destinationsFit t (es′ .edge) (es′ .target) (es′ .home) runs stock (es′ .count) c
     own-rule =
-        ap (λ (u : List ℕ). agrees d c (ownOf u node)) (s .table-is)
-        ∙ agrees-rows t d o links ts ends n c s edge target home k runs stock m own (own-inside t g node there)
-        ∙ ap (λ (u : List ℕ). fits u edge target home runs stock n c own) (s .table-is)
+        rw (w .edges-stay, w .count-stays)
+        (ap (λ (u : List ℕ). agrees d c (ownOf u node)) (s .seated .table-is)
+        ∙ agrees-rows t d o (s .links) (s .trees) es c (s .seated) runs stock (s .told) own (own-inside t g node there)
+        ∙ ap (λ (u : List ℕ). fits u (es .edge) (es .target) (es .home) runs stock (es .count) c own) (s .seated .table-is)
         ∙ sym
-        (own-destinations t (o .last) ends edge target home n k g own (own-inside t g node there) (own-no-pin t g node there) target′ home′ by-target by-home runs stock c room)
+        (own-destinations t (es .edge) (es .target) (es .home) (es .count) (s .seated .homes-are)
+        g own (own-inside t g node there) (own-no-pin t g node there) (es′ .target) (es′ .home) (w .targets-own) (w .homes-own) runs stock c (roomy s)))
 
-    level-rows : (q : ℕ) → q ≤ 3 → left (levels d node) (suc q) c ≡ served target home n c node && left asked q c
+    rivals-rule : isGood (judgedBy ((10, rule1 d) ∷ []) c) ≡ noRivals (es′ .foes) (es′ .makers) (es′ .count) c
+    rivals-rule = rw (w .foes-stay, w .makers-stay, w .count-stays) (passes1 t d o (s .links) (s .trees) es c (s .seated) runs stock (s .told))
+
+    forks-rule : isGood (judgedBy ((11, rule2 d) ∷ []) c) ≡ forksWhole t (o .node) (o .parents) (es′ .makers) (o .count) (es′ .count) c
+    forks-rule = rw (w .makers-stay, w .count-stays) (passes2 t d o (s .links) (s .trees) es c (s .seated) runs stock (s .told))
+
+    level-rows : (q : ℕ) → q ≤ 3 → left (levels d node) (suc q) c ≡ taken c && left asked q c
     unfolding left levels
     level-rows zero l = ap (λ (x : Bool). x && true) taken-end
     level-rows (suc zero) l = ap₂ (λ (x y : Bool). x && (y && true)) taken-end own-rule
-    level-rows (suc (suc zero)) l =
-        ap₂ (λ (x y : Bool). x && y) taken-end (ap₂ (λ (x y : Bool). x && (y && true)) own-rule (passes1 t d o links ts ends n c s edge target home k runs stock m))
+    level-rows (suc (suc zero)) l = ap₂ (λ (x y : Bool). x && y) taken-end (ap₂ (λ (x y : Bool). x && (y && true)) own-rule rivals-rule)
     level-rows (suc (suc (suc zero))) l =
-        ap₂ (λ (x y : Bool). x && y) taken-end
-        (ap₂ (λ (x y : Bool). x && y) own-rule
-        (ap₂ (λ (x y : Bool). x && (y && true)) (passes1 t d o links ts ends n c s edge target home k runs stock m) (passes2 t d o links ts ends n c s edge target home k runs stock m)))
+        ap₂ (λ (x y : Bool). x && y) taken-end (ap₂ (λ (x y : Bool). x && y) own-rule (ap₂ (λ (x y : Bool). x && (y && true)) rivals-rule forks-rule))
     level-rows (suc (suc (suc (suc q)))) l = absurd (omega arith)
 
   -- a net that says what the first levels past taking an end ask, with what is wanted for the node
-  pub level-sought : (net : List ℕ) (count q : ℕ) (want : Wanted) → q ≤ 3 → ((c : ℕ) → holds net count n c ≡ left asked q c)
-      → ((c : ℕ) → leb (want .least) (held n c (want .ends)) ≡ not (named node) || served target home n c node)
-      → (c : ℕ) → holds net count n c && leb (want .least) (held n c (want .ends)) ≡ left (levels d node) (suc q) c
-  level-sought net count q want l h w c =
-      ap₂ (λ (a b : Bool). a && b) (h c) (w c ∙ ap (λ (b : Bool). not b || served target home n c node) is-named)
-      ∙ and-comm (left asked q c) (served target home n c node) ∙ sym (level-rows c q l)
+  pub level-sought : (net : List ℕ) (count q : ℕ) (want : Wanted) → q ≤ 3 → ((c : ℕ) → holds net count (es′ .count) c ≡ left asked q c)
+      → ((c : ℕ) → leb (want .least) (held (es .count) c (want .ends)) ≡ not (named node) || taken c)
+      → (c : ℕ) → holds net count (es .count) c && leb (want .least) (held (es .count) c (want .ends)) ≡ left (levels d node) (suc q) c
+  level-sought net count q want l h v c =
+      ap₂ (λ (a b : Bool). a && b) (ap (λ (n : ℕ). holds net count n c) (sym (w .count-stays)) ∙ h c) (v c ∙ ap (λ (b : Bool). not b || taken c) is-named)
+      ∙ and-comm (left asked q c) (taken c) ∙ sym (level-rows c q l)
 
 -- ---- what the search answers of a level
 module _ (asked : List (ℕ → Bool)) (m k : ℕ) (f : Found) (a : Answered (left asked k) m f) where
@@ -107,37 +112,35 @@ pub none-named-0 : (d : Board) (n : ℕ) → n ≡ 255 → Reason d n 0
 none-named-0 d n e = record { none-named = λ q. refl; first-empty = λ q. never (named n) q (ap named e) }
 
 -- the ends' last edges are the table's
-rows-inside : {t : List ℕ} {d : Board} {o : Offers} (links : List ℕ) {ts : List Offer} {ends : List ℕ} {n : ℕ} → Pickable t o ends n → Seated t d (rowsOf o links) ts ends n → EndsInside d
-rows-inside {t} {d} {o} links {ts} {ends} {n} p s x m =
+ends-inside : {t : List ℕ} {d : Board} {o : Offers} {es : Ends} {runs stock : List ℕ} → Stands t d o es runs stock → EndsInside d
+ends-inside {t} {d} {o} {es} st x m =
+    let s = st .seated in
     let r = in-each (end d) (below (howMany d)) (subst (λ (xs : List Offer). In x xs) (sym (each-below (first 0 none) (end d) (d .allEnds) (λ k l. refl))) m) in
     let k = r .0 in
-    let l : k < n = omega (arith, in-below (howMany d) (r .1), s .number) in
-    let e : lastEdge x ≡ at (o .last) (at ends k) = ap lastEdge (r .2 ∙ sym (s .ends-are k l)) ∙ sym (s .holds-ts .rows (at ends k) (s .inside k l) .last-is) in
-    rw (s .table-is, e) (p .edges-inside k l)
+    let l : k < es .count = omega (arith, in-below (howMany d) (r .1), s .number) in
+    let e : lastEdge x ≡ at (es .edge) k =
+    ap lastEdge (r .2 ∙ sym (s .ends-are k l)) ∙ sym (s .holds-ts .rows (at (es .row) k) (s .inside k l) .last-is) ∙ sym (s .edges-are k l) in
+    rw (s .table-is, e) (s .edges-inside k l)
 
-module _ {t : List ℕ} {d : Board} {o : Offers} (links : List ℕ) {ts : List Offer} {ends : List ℕ} {n : ℕ} (p : Pickable t o ends n) (s : Seated t d (rowsOf o links) ts ends n)
-    {runs stock : List ℕ} (m : Told t (d .current) runs stock) (node : ℕ) (named-one : node ≡ 255 → ⊥) where
+module _ {t : List ℕ} {d : Board} {o : Offers} {es : Ends} {runs stock : List ℕ} (s : Stands t d o es runs stock) (node : ℕ) (named-one : node ≡ 255 → ⊥) where
   the-table : GoodTable (d .table) limits
-  the-table = rw (s .table-is) (table-good t limits (m .table-fine))
+  the-table = rw (s .seated .table-is) (table-good t limits (s .told .table-fine))
 
   is-one : named node ≡ true
   is-one = ap not (ne-eqb node 255 named-one)
 
-  of-first : (r : ℕ) → FirstEmpty (levels d node) (howMany d) r → Reason d node r
-  of-first r f = record { none-named = λ q. never (named node) is-one q; first-empty = λ q. f }
+  pub named-reason : (r : ℕ) → FirstEmpty (levels d node) (howMany d) r → Reason d node r
+  named-reason r f = record { none-named = λ q. never (named node) is-one q; first-empty = λ q. f }
 
   pub missing-1 : nodes t ≤ node → Reason d node 1
-  missing-1 l = of-first 1 (missing-first d the-table (rows-inside links p s) node (rw (s .table-is) l))
-
-  pub named-reason : (r : ℕ) → FirstEmpty (levels d node) (howMany d) r → Reason d node r
-  named-reason r f = of-first r f
+  missing-1 l = named-reason 1 (missing-first d the-table (ends-inside s) node (rw (s .seated .table-is) l))
 
   -- the last level is what pick wants
   pub last-answered : (k : ℕ) → k ≤ 4 → 3 < k → (f : Found) → Answered (wanted d node) (howMany d) f → Answered (left (levels d node) (suc k)) (howMany d) f
   unfolding levels
   last-answered k l g f a =
       let e : k ≡ 4 = omega arith in
-      rw e (answered-same (wanted d node) (left (levels d node) 5) (howMany d) (λ c. sym (last-level d the-table (rows-inside links p s) node is-one c)) f a)
+      rw e (answered-same (wanted d node) (left (levels d node) 5) (howMany d) (λ c. sym (last-level d the-table (ends-inside s) node is-one c)) f a)
 
 -- ---- level by level
 pub climbed-empty : (asked : List (ℕ → Bool)) (m k : ℕ) → SomeLeft asked m k → NoneLeft asked m (suc k) → (r : ℕ) → r ≡ k + 1 → FirstEmpty asked m r

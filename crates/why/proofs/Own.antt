@@ -19,11 +19,11 @@ use Rattle.paper.proofs.Counts.{any-below-none, count-below-same}
 use Rattle.paper.proofs.Lists.{all-below, below-all}
 use Rattle.paper.proofs.Members.{In, any-count, in-keep-below}
 use Rattle.paper.proofs.Tables.{GoodTable}
-use Rattle.ends_masks.specs.Seating.{Columns, seats, served, actionFits, fits, destinationsFit}
+use Rattle.ends_masks.specs.Seating.{seats, served, actionFits, fits, destinationsFit}
 use Rattle.ends_masks.proofs.Numbers.{any-below-alike, all-alike}
 use Rattle.ends_masks.proofs.Rules.{if-so}
 use Rattle.pick_rules.specs.Rules.{Roomy}
-use Rattle.why.specs.Reasons.{Only}
+use Rattle.why.specs.Reasons.{OwnOnly}
 
 -- ---- kinds of node that are no pins
 action-no-pin : (k : ℕ) → isAction k ≡ true → isPin k ≡ false
@@ -71,20 +71,20 @@ so-far-more column home own r k x s l e = record {
   rest = λ j m. getD-set-other r k j x 0 (λ z. absurd (omega arith)) ∙ s .rest j (omega arith);
 }
 
-pub so-far-all : {column home : List ℕ} {own : ℕ} {r : List ℕ} {k : ℕ} (n : ℕ) → n ≤ k → SoFar column home own r k → Only column home n own r
+pub so-far-all : {column home : List ℕ} {own : ℕ} {r : List ℕ} {k : ℕ} (n : ℕ) → n ≤ k → SoFar column home own r k → OwnOnly column home n own r
 so-far-all n l s = record { says = λ j m. s .done j (omega arith) }
 
-pub only-at : {column home : List ℕ} {n x y : ℕ} {r : List ℕ} → x ≡ y → Only column home n x r → Only column home n y r
-only-at {column} {home} {n} {r = r} e o = subst (λ (z : ℕ). Only column home n z r) e o
+pub only-at : {column home : List ℕ} {n x y : ℕ} {r : List ℕ} → x ≡ y → OwnOnly column home n x r → OwnOnly column home n y r
+only-at {column} {home} {n} {r = r} e o = subst (λ (z : ℕ). OwnOnly column home n z r) e o
 
-module _ {column home : List ℕ} {n own : ℕ} {r : List ℕ} (o : Only column home n own r) (j : ℕ) (l : j < n) where
+module _ {column home : List ℕ} {n own : ℕ} {r : List ℕ} (o : OwnOnly column home n own r) (j : ℕ) (l : j < n) where
   stays : eqb (at home j) own ≡ true → at r j ≡ at column j
   stays e = o .says j l ∙ ap (λ (b : Bool). cond b (at column j) 255) e
 
   goes : eqb (at home j) own ≡ false → at r j ≡ 255
   goes e = o .says j l ∙ ap (λ (b : Bool). cond b (at column j) 255) e
 
-module _ {column home : List ℕ} {n own : ℕ} {r : List ℕ} (o : Only column home n own r) (c x : ℕ) (small : x < 255) where
+module _ {column home : List ℕ} {n own : ℕ} {r : List ℕ} (o : OwnOnly column home n own r) (c x : ℕ) (small : x < 255) where
   -- no end elsewhere has x
   seats-same : ((j : ℕ) → j < n → at column j ≡ x → at home j ≡ own) → seats r n c x ≡ seats column n c x
   unfolding seats
@@ -112,18 +112,18 @@ module _ {column home : List ℕ} {n own : ℕ} {r : List ℕ} (o : Only column 
           (true-or-false (eqb (at home j) own))
 
 -- ---- the columns of the ends that have the node for a home
-module _ (t last ends edge target home : List ℕ) (n : ℕ) (k : Columns t last ends edge target home n) (g : GoodTable t limits)
+module _ (t edge target home : List ℕ) (n : ℕ) (homes-are : (k : ℕ) → k < n → at home k ≡ cond (isPin (kind t (at target k))) (owner t (at target k)) (at target k)) (g : GoodTable t limits)
     (own : ℕ) (there : own < nodes t) (no-pin : isPin (kind t own) ≡ false) (target′ home′ : List ℕ)
-    (by-target : Only target home n own target′) (by-home : Only home home n own home′) (runs stock : List ℕ) (c : ℕ) where
+    (by-target : OwnOnly target home n own target′) (by-home : OwnOnly home home n own home′) (runs stock : List ℕ) (c : ℕ) where
   few-nodes : (i : ℕ) → i < nodes t → i < 255
   few-nodes i l = omega (arith, g .frame .nodes-fit)
 
   -- an end at a node that is no pin has it for a home
   at-home : (j i : ℕ) → j < n → isPin (kind t i) ≡ false → at target j ≡ i → at home j ≡ i
-  at-home j i l p e = k .homes-are j l ∙ rw (e, p) refl
+  at-home j i l p e = homes-are j l ∙ rw (e, p) refl
 
   at-owner : (j p : ℕ) → j < n → isPin (kind t p) ≡ true → at target j ≡ p → at home j ≡ owner t p
-  at-owner j p l q e = k .homes-are j l ∙ rw (e, q) refl
+  at-owner j p l q e = homes-are j l ∙ rw (e, q) refl
 
   -- ---- who is served
   abbrev among : List ℕ → List ℕ → ℕ → ℕ → Bool

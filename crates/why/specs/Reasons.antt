@@ -1,30 +1,41 @@
--- What is asked about a board level by level, and a column with the entries of one node's ends only. Assumes nothing.
-use Prim.Native.Nat.{ℕ, _≤_, _<_}
+-- What is asked about a board level by level, and the ends with the targets and homes of one node's own only. Assumes nothing.
+use Prim.Native.Nat.{ℕ, _<_}
 use mathlib.Core.Path.{_≡_}
 use mathlib.Core.Bool.{Bool, true, false, cond}
-use mathlib.Core.List.{List}
+use mathlib.Core.List.{List, [], _∷_}
 use lib.Dec.{eqb}
-use lib.ListN.{length}
 use Rattle.paper.specs.Lists.{at}
-use Rattle.paper.specs.Table.{upper}
-use Rattle.paper.specs.Offers.{Offer}
 use Rattle.paper.specs.Choices.{Board}
 use Rattle.paper.specs.Operations.{SomeLeft, NoneLeft}
-use Rattle.offers.specs.Struct.{rowsOf}
 use Rattle.offers.specs.declared.Offers.{Offers}
 use Rattle.marking_held.specs.declared.Held.{Held}
-use Rattle.ends_masks.specs.Seating.{Seated}
-use Rattle.ends_masks.proofs.Rules.{Told}
+use Rattle.ends_masks.specs.Seating.{EndsFull, Stands, destinationsFit, noRivals, forksWhole}
+use Rattle.ends_masks.specs.declared.Ends.{Ends}
 
--- P holds of every board of which the offers, the ends and what is held are the numbers
-abbrev pub OnBoard : List ℕ → Offers → List ℕ → ℕ → Held → (Board → Type 0) → Type 0
-OnBoard t o ends n held P =
-    (links : List ℕ) (d : Board) (ts : List Offer) → Seated t d (rowsOf o links) ts ends n → Told t (d .current) (held .runs) (held .kept)
-    → ((i : ℕ) → length (d .current .stock i) ≤ upper t i) → P d
+-- P holds of every board that stands in these values
+abbrev pub OnBoard : List ℕ → Offers → Ends → Held → (Board → Type 0) → Type 0
+OnBoard t o e held P = (d : Board) → Stands t d o e (held .runs) (held .kept) → P d
+
+-- what the levels past the first ask, if the targets and homes are those of the node's own ends
+abbrev pub asks : List ℕ → Offers → Ends → List ℕ → List ℕ → List (ℕ → Bool)
+asks t o e runs stock =
+    destinationsFit t (e .edge) (e .target) (e .home) runs stock (e .count)
+    ∷ noRivals (e .foes) (e .makers) (e .count)
+    ∷ forksWhole t (o .node) (o .parents) (e .makers) (o .count) (e .count) ∷ []
 
 -- the entries of a column where `home` has x, and 255 elsewhere
-pub record Only (column home : List ℕ) (n x : ℕ) (r : List ℕ) : Type 0 where
+pub record OwnOnly (column home : List ℕ) (n x : ℕ) (r : List ℕ) : Type 0 where
   pub says : (k : ℕ) → k < n → at r k ≡ cond (eqb (at home k) x) (at column k) 255
+
+-- the ends r are e, but that those whose home isn't x have no target and no home
+pub record OwnEnds (e : Ends) (x : ℕ) (r : Ends) : Type 0 where
+  pub full : EndsFull r
+  pub edges-stay : r .edge ≡ e .edge
+  pub makers-stay : r .makers ≡ e .makers
+  pub foes-stay : r .foes ≡ e .foes
+  pub count-stays : r .count ≡ e .count
+  pub targets-own : OwnOnly (e .target) (e .home) (e .count) x (r .target)
+  pub homes-own : OwnOnly (e .home) (e .home) (e .count) x (r .home)
 
 -- ---- of what is asked level by level: whether one of all sets of m ends is left at level k
 abbrev pub Whether : List (ℕ → Bool) → ℕ → ℕ → Bool → Type 0

@@ -1,5 +1,5 @@
 // why on a board: the first level at which no choice is left for a node, and that byte written.
-// The board's offers and ends are lent as they were read (`Pickable`). A level is asked as pick is, of a net with the rules of the levels up to it.
+// Takes a board's offers, its ends and what is held by value; what they mean is said of any board that stands in them (`OnBoard`). A level is asked as pick is, of a net with the rules of the levels up to it.
 ghost use mathlib.Core.Path.{_≡_};
 ghost use mathlib.Core.Bool.{cond, _&&_};
 ghost use mathlib.Core.List.{[], _∷_};
@@ -11,12 +11,13 @@ ghost use Rattle.paper.specs.Choices.{howMany};
 ghost use Rattle.paper.specs.Operations.{inRoom, Reply, Leaves, ownOf, levels, left, FirstEmpty, Reason, WhyIf};
 ghost use Rattle.table.specs.Reading.{tableRead, Blank};
 ghost use Rattle.offers.specs.Struct.{Full};
-ghost use Rattle.marking_held.specs.TakenUp.{HeldFull};
+ghost use Rattle.marking_held.specs.MarkingHeld.{HeldLengths};
 ghost use Rattle.pick_bounds.specs.Net.{held as heldOf};
-ghost use Rattle.ends_masks.specs.Seating.{destinationsFit, noRivals, forksWhole};
-ghost use Rattle.pick_rules.specs.Rules.{Lent, Roomy, holds};
-ghost use Rattle.pick.specs.Picking.{Pickable, Answered};
-ghost use Rattle.why.specs.Reasons.{OnBoard, Only, Whether};
+ghost use Rattle.ends_masks.specs.Seating.{EndsFull};
+ghost use Rattle.pick_rules.specs.Rules.{Roomy, holds};
+ghost use Rattle.pick.specs.Picking.{Answered};
+ghost use Rattle.why.specs.Reasons.{OnBoard, OwnOnly, OwnEnds, asks, Whether};
+use ends_masks::Ends;
 use marking_held::Held;
 use offers::Offers;
 use pick::Question;
@@ -52,7 +53,7 @@ fn own_entry(entry: u8, home: u8, own: usize) -> u8
 // A column without the entries of ends that belong elsewhere.
 fn leave_own(column: &mut [u8], home: &[u8], n: usize, own: usize)
     requires { ⌜ (n ≤ length (now column)) × (n ≤ length (now home)) ⌝ }
-    ensures { λ _. ⌜ Only (now (column .entry)) (now (home .entry)) n own (now (column .exit)) ⌝ }
+    ensures { λ _. ⌜ OwnOnly (now (column .entry)) (now (home .entry)) n own (now (column .exit)) ⌝ }
 {
     let mut k: usize = 0;
     while k < n {
@@ -61,123 +62,100 @@ fn leave_own(column: &mut [u8], home: &[u8], n: usize, own: usize)
     }
 }
 
+// The ends, with the targets and homes of those that belong to `own` only. The last edges stay: rules on edges ask for ends by their targets and homes.
+fn own_ends(ends: Ends, own: usize) -> Ends
+    requires { ⌜ EndsFull ends ⌝ }
+    ensures { λ r. ⌜ OwnEnds ends own r ⌝ }
+{
+    let row = ends.row;
+    let edge = ends.edge;
+    let all = ends.home;
+    let makers = ends.makers;
+    let foes = ends.foes;
+    let n = ends.count;
+    let mut target = ends.target;
+    let mut home = ends.home;
+    leave_own(&mut target, &all, n, own);
+    leave_own(&mut home, &all, n, own);
+    Ends {
+        row: row,
+        edge: edge,
+        target: target,
+        home: home,
+        makers: makers,
+        foes: foes,
+        count: n,
+    }
+}
+
 // ---- the net of a level
 
-// The rules of the first k levels past that of taking an end, in a blank net: those of the columns, which are a node's own, then rivals, then forks.
+// The rules of the first k levels past that of taking an end, in a blank net: those on targets and homes, which are a node's own, then rivals, then forks.
 fn fill(
     net: &mut [u32],
     t: &[u8],
     table: Table,
     offers: Offers,
-    ends: &[u8],
-    edge: &[u8],
-    target: &[u8],
-    home: &[u8],
-    n: usize,
+    ends: Ends,
     held: Held,
     k: usize,
 ) -> usize
-    requires { ⌜ Blank (now net) × Full offers × HeldFull held × (440 ≤ length (now net)) × Lent (now t) table (offers .node) (offers .parents) (offers .makers) (offers .foes) (now ends) (now edge) (now target) (now home) (held .runs) (held .kept) (offers .count) n ⌝ }
-    ensures { λ r. ⌜ (r ≤ 105) × (k ≤ 3 → Roomy (now (t .entry)) (held .kept) → (c : ℕ) → holds (now (net .exit)) r n c ≡ left (destinationsFit (now (t .entry)) (now (edge .entry)) (now (target .entry)) (now (home .entry)) (held .runs) (held .kept) n ∷ noRivals (offers .foes) (offers .makers) (now (ends .entry)) n ∷ forksWhole (now (t .entry)) (offers .node) (offers .parents) (offers .makers) (now (ends .entry)) (offers .count) n ∷ []) k c) ⌝ }
+    requires { ⌜ Blank (now net) × (440 ≤ length (now net)) × (tableRead (now t) ≡ good table) × Full offers × EndsFull ends × HeldLengths held ⌝ }
+    ensures { λ r. ⌜ (r ≤ 105) × (k ≤ 3 → Roomy (now (t .entry)) (held .kept) → (c : ℕ) → holds (now (net .exit)) r (ends .count) c ≡ left (asks (now (t .entry)) offers ends (held .runs) (held .kept)) k c) ⌝ }
 {
-    let node = offers.node;
-    let parents = offers.parents;
-    let makers = offers.makers;
-    let foes = offers.foes;
-    let runs = held.runs;
-    let kept = held.kept;
     if k == 0 {
         return 0;
     }
     if k == 1 {
-        return pick_rules::add_destinations(net, 0, t, table, edge, target, home, n, &runs, &kept);
+        return pick_rules::add_destinations(net, 0, t, table, ends, held);
     }
-    pick_rules::fill_rivals(net, &foes, &makers, ends, n);
-    let own = pick_rules::add_destinations(net, 0, t, table, edge, target, home, n, &runs, &kept);
+    let foes = ends.foes;
+    let makers = ends.makers;
+    pick_rules::fill_rivals(net, &foes, &makers, ends.count);
+    let own = pick_rules::add_destinations(net, 0, t, table, ends, held);
     if k == 2 {
         return own;
     }
-    pick_rules::add_forks(
-        net,
-        own,
-        t,
-        table,
-        &node,
-        &parents,
-        &makers,
-        ends,
-        offers.count,
-        n,
-    )
+    pick_rules::add_forks(net, own, t, table, offers, ends)
 }
 
 // The net of a level and what is wanted of it: an end of the node, its own rule, and the first rules of the list; k levels past the first.
-// Of the columns the last edges stay: rules on edges ask for ends by their targets and homes.
 fn prepare(
     t: &[u8],
     table: Table,
     offers: Offers,
-    ends: &[u8],
-    n: usize,
+    ends: Ends,
     held: Held,
     node: u8,
     k: usize,
     net: &mut [u32],
 ) -> Question
-    requires { ⌜ (tableRead (now t) ≡ good table) × Pickable (now t) offers (now ends) n × HeldFull held × (node < table .nodes) × Blank (now net) × (440 ≤ length (now net)) ⌝ }
-    ensures { λ r. ⌜ (r .rules ≤ 105) × (k ≤ 3 → OnBoard (now (t .entry)) offers (now (ends .entry)) n held (λ d. (c : ℕ) → holds (now (net .exit)) (r .rules) n c && leb (r .want .least) (heldOf n c (r .want .ends)) ≡ left (levels d node) (suc k) c)) ⌝ }
+    requires { ⌜ (tableRead (now t) ≡ good table) × Full offers × EndsFull ends × HeldLengths held × (node < table .nodes) × Blank (now net) × (440 ≤ length (now net)) ⌝ }
+    ensures { λ r. ⌜ (r .rules ≤ 105) × (k ≤ 3 → OnBoard (now (t .entry)) offers ends held (λ d. (c : ℕ) → holds (now (net .exit)) (r .rules) (ends .count) c && leb (r .want .least) (heldOf (ends .count) c (r .want .ends)) ≡ left (levels d node) (suc k) c)) ⌝ }
 {
-    let last = offers.last;
-    let mut edge = [0u8; offers::MOST_ENDS];
-    let mut target = [0u8; offers::MOST_ENDS];
-    let mut home = [0u8; offers::MOST_ENDS];
-    ends_masks::columns(t, table, &last, ends, n, &mut edge, &mut target, &mut home);
-    let want = pick_wanted::wanted(&target, &home, n, node);
-    let own = own_of(t, table, wire::wide(node));
-    let all = home;
-    leave_own(&mut target, &all, n, own);
-    leave_own(&mut home, &all, n, own);
-    let rules = fill(
-        net,
-        t,
-        table,
-        offers,
-        ends,
-        &edge,
-        &target,
-        &home,
-        n,
-        held,
-        k,
-    );
+    let target = ends.target;
+    let home = ends.home;
+    let own = own_ends(ends, own_of(t, table, wire::wide(node)));
+    let rules = fill(net, t, table, offers, own, held, k);
     Question {
         rules: rules,
-        want: want,
+        want: pick_wanted::wanted(&target, &home, ends.count, node),
     }
 }
 
 // ---- the first level at which no choice is left
 
 // The first choice that is left at a level, k levels past the first. At the last level it is pick's.
-fn find(
-    t: &[u8],
-    table: Table,
-    offers: Offers,
-    ends: &[u8],
-    n: usize,
-    held: Held,
-    node: u8,
-    k: usize,
-) -> Found
-    requires { ⌜ (tableRead (now t) ≡ good table) × Pickable (now t) offers (now ends) n × HeldFull held × (node < table .nodes) ⌝ }
-    ensures { λ r. ⌜ (k ≤ 4 → OnBoard (now (t .entry)) offers (now (ends .entry)) n held (λ d. Answered (left (levels d node) (suc k)) (howMany d) r)) ⌝ }
+fn find(t: &[u8], table: Table, offers: Offers, ends: Ends, held: Held, node: u8, k: usize) -> Found
+    requires { ⌜ (tableRead (now t) ≡ good table) × Full offers × EndsFull ends × HeldLengths held × (node < table .nodes) ⌝ }
+    ensures { λ r. ⌜ (k ≤ 4 → OnBoard (now (t .entry)) offers ends held (λ d. Answered (left (levels d node) (suc k)) (howMany d) r)) ⌝ }
 {
     if 3 < k {
-        return pick::choose(t, table, offers, ends, n, held, node);
+        return pick::choose(t, table, offers, ends, held, node);
     }
     let mut net = [0u32; pick_rules::CELLS];
-    let asked = prepare(t, table, offers, ends, n, held, node, k, &mut net);
-    pick::first(&net, asked, n)
+    let asked = prepare(t, table, offers, ends, held, node, k, &mut net);
+    pick::first(&net, asked, ends.count)
 }
 
 // Whether a choice is left at a level, k levels past the first.
@@ -185,29 +163,28 @@ fn is_left(
     t: &[u8],
     table: Table,
     offers: Offers,
-    ends: &[u8],
-    n: usize,
+    ends: Ends,
     held: Held,
     node: u8,
     k: usize,
 ) -> bool
-    requires { ⌜ (tableRead (now t) ≡ good table) × Pickable (now t) offers (now ends) n × HeldFull held × (node < table .nodes) ⌝ }
-    ensures { λ r. ⌜ (k ≤ 4 → OnBoard (now (t .entry)) offers (now (ends .entry)) n held (λ d. Whether (levels d node) (howMany d) (suc k) r)) ⌝ }
+    requires { ⌜ (tableRead (now t) ≡ good table) × Full offers × EndsFull ends × HeldLengths held × (node < table .nodes) ⌝ }
+    ensures { λ r. ⌜ (k ≤ 4 → OnBoard (now (t .entry)) offers ends held (λ d. Whether (levels d node) (howMany d) (suc k) r)) ⌝ }
 {
-    match find(t, table, offers, ends, n, held, node, k) {
+    match find(t, table, offers, ends, held, node, k) {
         Found::Nothing => false,
         Found::Choice(_) => true,
     }
 }
 
 // The first level at which none is left, or 0.
-fn climb(t: &[u8], table: Table, offers: Offers, ends: &[u8], n: usize, held: Held, node: u8) -> u8
-    requires { ⌜ (tableRead (now t) ≡ good table) × Pickable (now t) offers (now ends) n × HeldFull held × (node < table .nodes) ⌝ }
-    ensures { λ r. ⌜ OnBoard (now (t .entry)) offers (now (ends .entry)) n held (λ d. FirstEmpty (levels d node) (howMany d) r) ⌝ }
+fn climb(t: &[u8], table: Table, offers: Offers, ends: Ends, held: Held, node: u8) -> u8
+    requires { ⌜ (tableRead (now t) ≡ good table) × Full offers × EndsFull ends × HeldLengths held × (node < table .nodes) ⌝ }
+    ensures { λ r. ⌜ OnBoard (now (t .entry)) offers ends held (λ d. FirstEmpty (levels d node) (howMany d) r) ⌝ }
 {
     let mut k: usize = 0;
     while k < 5 {
-        if !is_left(t, table, offers, ends, n, held, node, k) {
+        if !is_left(t, table, offers, ends, held, node, k) {
             return k as u8 + 1;
         }
         k += 1;
@@ -216,9 +193,9 @@ fn climb(t: &[u8], table: Table, offers: Offers, ends: &[u8], n: usize, held: He
 }
 
 // The reason for a node, if one is named.
-fn reason(t: &[u8], table: Table, offers: Offers, ends: &[u8], n: usize, held: Held, node: u8) -> u8
-    requires { ⌜ (tableRead (now t) ≡ good table) × Pickable (now t) offers (now ends) n × HeldFull held ⌝ }
-    ensures { λ r. ⌜ OnBoard (now (t .entry)) offers (now (ends .entry)) n held (λ d. Reason d node r) ⌝ }
+fn reason(t: &[u8], table: Table, offers: Offers, ends: Ends, held: Held, node: u8) -> u8
+    requires { ⌜ (tableRead (now t) ≡ good table) × Full offers × EndsFull ends × HeldLengths held ⌝ }
+    ensures { λ r. ⌜ OnBoard (now (t .entry)) offers ends held (λ d. Reason d node r) ⌝ }
 {
     if node == NO_ONE {
         return 0;
@@ -226,7 +203,7 @@ fn reason(t: &[u8], table: Table, offers: Offers, ends: &[u8], n: usize, held: H
     if table.nodes <= wire::wide(node) {
         return 1;
     }
-    climb(t, table, offers, ends, n, held, node)
+    climb(t, table, offers, ends, held, node)
 }
 
 // How many states the search at a level visits, k levels past the first, from 4 on pick's: what a test can hold down.
@@ -234,24 +211,23 @@ pub fn states(
     t: &[u8],
     table: Table,
     offers: Offers,
-    ends: &[u8],
-    n: usize,
+    ends: Ends,
     held: Held,
     node: u8,
     k: usize,
 ) -> usize
-    requires { ⌜ (tableRead (now t) ≡ good table) × Pickable (now t) offers (now ends) n × HeldFull held ⌝ }
-    ensures { λ r. ⌜ (1 ≤ r) × (r < 2 ^ (n + 22)) ⌝ }
+    requires { ⌜ (tableRead (now t) ≡ good table) × Full offers × EndsFull ends × HeldLengths held ⌝ }
+    ensures { λ r. ⌜ (1 ≤ r) × (r < 2 ^ (ends .count + 22)) ⌝ }
 {
     if 3 < k {
-        return pick::states(t, table, offers, ends, n, held, node);
+        return pick::states(t, table, offers, ends, held, node);
     }
     if table.nodes <= wire::wide(node) {
         return 1;
     }
     let mut net = [0u32; pick_rules::CELLS];
-    let asked = prepare(t, table, offers, ends, n, held, node, k, &mut net);
-    pick::effort(&net, asked, n)
+    let asked = prepare(t, table, offers, ends, held, node, k, &mut net);
+    pick::effort(&net, asked, ends.count)
 }
 
 // One byte, if there is room for it (row 17).
@@ -270,15 +246,14 @@ pub fn why(
     t: &[u8],
     table: Table,
     offers: Offers,
-    ends: &[u8],
-    n: usize,
+    ends: Ends,
     held: Held,
     node: u8,
     out: &mut [u8],
 ) -> u64
-    requires { ⌜ (tableRead (now t) ≡ good table) × Pickable (now t) offers (now ends) n × HeldFull held ⌝ }
-    ensures { λ r. ⌜ OnBoard (now (t .entry)) offers (now (ends .entry)) n held (λ d. Leaves (WhyIf (good d) node) r (now (out .entry)) (now (out .exit))) ⌝ }
+    requires { ⌜ (tableRead (now t) ≡ good table) × Full offers × EndsFull ends × HeldLengths held ⌝ }
+    ensures { λ r. ⌜ OnBoard (now (t .entry)) offers ends held (λ d. Leaves (WhyIf (good d) node) r (now (out .entry)) (now (out .exit))) ⌝ }
 {
-    let byte = reason(t, table, offers, ends, n, held, node);
+    let byte = reason(t, table, offers, ends, held, node);
     tell(byte, out)
 }

@@ -16,6 +16,13 @@ pub fn wide(x: u8) -> usize
     x as usize
 }
 
+// A place of two bytes as a number that can be an index.
+pub fn wide16(x: u16) -> usize
+    ensures { λ r. ⌜ r ≡ x ⌝ }
+{
+    x as usize
+}
+
 // The big-endian number in two bytes from a place on.
 pub fn read16(s: &[u8], from: usize) -> usize
     requires { ⌜ from + 2 ≤ length (now s) ⌝ }

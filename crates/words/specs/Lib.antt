@@ -1,2 +1,3 @@
--- What words of offers say.
+-- What words of offers say, and what marks say.
 pub mod Clash
+pub mod Marks

@@ -1,10 +1,11 @@
 // Words that stand for sets of offers or of ends: a digit of a word, and whether two offers clash, as their nodes and words say.
-// Assumes no more than its `requires`.
+// And marks, a byte a place, by which a pass hands on what it found. Assumes no more than its `requires`.
 ghost use mathlib.Core.Path.{_≡_};
 ghost use Prim.Native.Nat.{_<_, _^_};
 ghost use Rattle.paper.specs.Lists.{has};
 ghost use Rattle.paper.specs.Table.{isObjectNode};
 ghost use Rattle.words.specs.Clash.{oneRoundIn, hit};
+ghost use Rattle.words.specs.Marks.{isMarked, marked};
 
 // Kinds of nodes, as a table has them.
 pub const DECISION: u64 = 8;
@@ -33,6 +34,28 @@ pub fn in_word(x: u64, i: usize) -> bool
     ensures { λ r. ⌜ r ≡ has x i ⌝ }
 {
     (x >> (i as u32)) % 2 == 1
+}
+
+// A mark at i, if the test passes and there is such a place.
+pub fn mark(marks: &mut [u8], on: bool, i: usize)
+    ensures { λ _. ⌜ now (marks .exit) ≡ marked (now (marks .entry)) on i ⌝ }
+{
+    if !on {
+        return;
+    }
+    if i < marks.len() {
+        marks[i] = 1;
+    }
+}
+
+// Whether place i is marked; past the last one nothing is.
+pub fn is_marked(marks: &[u8], i: usize) -> bool
+    ensures { λ r. ⌜ r ≡ isMarked (now (marks .entry)) i ⌝ }
+{
+    if marks.len() <= i {
+        return false;
+    }
+    marks[i] != 0
 }
 
 fn is_object_node(k: u64) -> bool

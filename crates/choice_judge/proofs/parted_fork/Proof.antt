@@ -1,57 +1,51 @@
--- `parted_fork` finds the lowest fork that is not passed whole. The invariant: no node passed is one. Assumes nothing.
-use mathlib.Core.Path.{_≡_, sym, _∙_}
-use mathlib.Core.Bool.{false, not, _&&_}
-use Prim.Native.Nat.{ℕ, _≤_, _<_, _-_}
-use native.Mathlib.Omega.{arith}
-use borrow.Author.Count.{below-more, below-none}
+-- `parted_fork`: words, then marks, then the lowest mark. Assumes nothing.
+use mathlib.Core.Path.{_∙_, ap}
+use Rattle.paper.specs.Lists.{lowest}
+use Rattle.paper.specs.Limits.{limits}
+use Rattle.table.proofs.Reading.{blank}
+use Rattle.choice_judge.specs.Judging.{partedAt, forksIn}
 use borrow.Author.Needs.{needs}
-use Rattle.paper.specs.Table.{nodes, kind, isFork}
-use Rattle.choice_judge.specs.Judging.{passedIn}
-use Rattle.choice_judge.proofs.Masks.{forks-at, forks-nowhere}
 use Rattle.choice_judge.proofs.parted_fork.Statement.{statement}
 use Rattle.choice_judge.proofs.parted_fork.Tie as tie
 
-abbrev Inv-loop : tie.InvT-loop
-Inv-loop t table node parents rows w count i₀ i = (i ≤ count) × (count ≡ nodes t) × ((j : ℕ) → j < i → isFork (kind t j) && not (passedIn node parents rows w j) ≡ false)
+slice-aggregate-fill-passed : tie.Need-slice-aggregate-fill-passed
+slice-aggregate-fill-passed c = search needs
 
-abbrev μ-loop : tie.MeasureT-loop
-μ-loop t table node parents rows w count i₀ i = count - i
+fill-passed-requires : tie.Need-fill-passed-requires
+fill-passed-requires c κs = search needs
 
-loop-holds : tie.Need-loop-holds Inv-loop μ-loop
-loop-holds c = (search needs, search needs, below-none _)
+slice-aggregate-mark-parted : tie.Need-slice-aggregate-mark-parted
+slice-aggregate-mark-parted c = search needs
 
-is-parted-requires : tie.Need-is-parted-requires Inv-loop μ-loop
-is-parted-requires c κs = search needs
+slice-aggregate-mark-parted-2 : tie.Need-slice-aggregate-mark-parted-2
+slice-aggregate-mark-parted-2 c = search needs
 
-cast-t11 : tie.Need-cast-t11 Inv-loop μ-loop
-cast-t11 c = search needs
+mark-parted-requires : tie.Need-mark-parted-requires
+mark-parted-requires c κs = search needs
 
-returns : tie.Need-returns Inv-loop μ-loop
-returns c = sym (forks-at _ _ _ _ _ _ (c .before .before .before .loop .inv .2) (sym (c .before .is-parted .ensures) ∙ c .if1 .taken) (omega arith))
+slice-aggregate-lowest-marked : tie.Need-slice-aggregate-lowest-marked
+slice-aggregate-lowest-marked c = search needs
 
-add-i : tie.Need-add-i Inv-loop μ-loop
-add-i c = search needs
+lowest-marked-requires : tie.Need-lowest-marked-requires
+lowest-marked-requires c κs = search needs
 
-loop-less : tie.Need-loop-less Inv-loop μ-loop
-loop-less c = search needs
-
-loop-again : tie.Need-loop-again Inv-loop μ-loop
-loop-again c = (search needs, search needs, below-more _ _ (c .before .before .before .loop .inv .2) (sym (c .before .is-parted .ensures) ∙ c .if1 .left))
-
-returns-2 : tie.Need-returns-2 Inv-loop μ-loop
-returns-2 c = sym (forks-nowhere _ _ _ _ _ (λ j h. c .before .loop .inv .2 j (omega arith)))
+returns : tie.Need-returns
+unfolding forksIn
+returns c = let s = c .before .before .before .before .before .before .before .before .before .before .before .before in
+    let a = s .args in
+    let q = partedAt (a .node .now) (a .parents .now) (a .rows) (a .w) (a .t .now) in
+    let f = c .before .before .before .before .before .before .before .fill-passed .ensures (blank (limits .mostNodes)) in
+    c .lowest-marked .ensures q (c .before .before .before .mark-parted .ensures f (blank (limits .mostNodes))) ∙ ap (lowest q) (s .pre .0 .nodes-read)
 
 pub parted-fork-spec : {M : Type 1} → statement M
 parted-fork-spec =
     tie.close
     (tie.spec
-    Inv-loop
-    μ-loop
-    loop-holds
-    is-parted-requires
-    cast-t11
-    returns
-    add-i
-    loop-less
-    loop-again
-    returns-2)
+    slice-aggregate-fill-passed
+    fill-passed-requires
+    slice-aggregate-mark-parted
+    slice-aggregate-mark-parted-2
+    mark-parted-requires
+    slice-aggregate-lowest-marked
+    lowest-marked-requires
+    returns)

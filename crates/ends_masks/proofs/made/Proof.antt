@@ -1,59 +1,59 @@
--- `ends_masks::made` meets its contract: the word marks the ends below k that one of the rows makes. Assumes nothing.
-use mathlib.Core.Path.{ap}
+use mathlib.Core.Path.{refl}
 use mathlib.Core.Bool.{not}
-use Prim.Native.Nat.{ℕ, _≤_, _-_}
+use Prim.Native.Nat.{_≤_, _-_}
 use native.Mathlib.Omega.{arith}
 use lib.Bits.{bitAnd}
 use lib.Dec.{eqb}
-use borrow.Author.Needs.{needs}
 use Rattle.paper.specs.Lists.{at}
 use Rattle.offers.specs.Sets.{Marks}
 use Rattle.offers.proofs.Sets.{marks-nil}
 use Rattle.ends_masks.proofs.Masks.{marks-fit, marks-all}
+use borrow.Author.Needs.{needs}
 use Rattle.ends_masks.proofs.made.Statement.{statement}
 use Rattle.ends_masks.proofs.made.Tie as tie
+use Rattle.ends_masks.proofs.made.Reads as reads
+use Rattle.ends_masks.proofs.made.Lts as lts
+use Rattle.ends_masks.proofs.mark.Reads as mark-reads
 
 abbrev Inv-loop : tie.InvT-loop
-Inv-loop makers ends n rows w₀ k₀ w k = (k ≤ n) × Marks (λ i. not (eqb (bitAnd (at makers (at ends i)) rows) 0)) k w
+Inv-loop makers n rows w₀ k₀ w k = (k ≤ n) × Marks (λ i. not (eqb (bitAnd (at makers i) rows) 0)) k w
 
 abbrev μ-loop : tie.MeasureT-loop
-μ-loop makers ends n rows w₀ k₀ w k = n - k
+μ-loop makers n rows w₀ k₀ w k = n - k
 
+-- src/lib.rt:159:5
 loop-holds : tie.Need-loop-holds Inv-loop μ-loop
 loop-holds c = (search needs, marks-nil _)
 
-shared-slice-read-wide : tie.Need-shared-slice-read-wide Inv-loop μ-loop
-shared-slice-read-wide c = search needs
-
-wide-requires : tie.Need-wide-requires Inv-loop μ-loop
-wide-requires c κs = search needs
-
+-- src/lib.rt:160:24
 mul-mark : tie.Need-mul-mark Inv-loop μ-loop
 mul-mark c = search needs
 
+-- src/lib.rt:160:24
 shared-slice-read-mark : tie.Need-shared-slice-read-mark Inv-loop μ-loop
-shared-slice-read-mark c =
-    let p = c .before .before .before .before .before .before .before .pre in
-    let i = p .0 .each-inside (c .before .before .before .before .loop .k) (c .before .before .before .loop-test .taken) in
-    omega (arith, c .before .wide .ensures .0)
+shared-slice-read-mark c = search needs
 
+-- src/lib.rt:160:9
 mark-requires : tie.Need-mark-requires Inv-loop μ-loop
 mark-requires c κs = search needs
 
+-- src/lib.rt:161:9
 add-k : tie.Need-add-k Inv-loop μ-loop
 add-k c = search needs
 
+-- src/lib.rt:159:5
 loop-less : tie.Need-loop-less Inv-loop μ-loop
 loop-less c = search needs
 
+-- src/lib.rt:159:5
 loop-again : tie.Need-loop-again Inv-loop μ-loop
-loop-again c =
-    let a = c .before .before .before .before .before .before .before .before .args in
-    (search needs, c .mark .ensures _ (ap (λ (i : ℕ). not (eqb (bitAnd (at (a .makers .now) i) (a .rows)) 0)) (c .before .before .wide .ensures .0)) (c .before .before .before .before .before .loop .inv .1))
+loop-again c = (search needs, c .mark .ensures _ refl (c .before .before .before .loop .inv .1))
 
+-- src/lib.rt:163:5
 cast-result : tie.Need-cast-result Inv-loop μ-loop
 cast-result c = let f = marks-fit (c .before .loop .inv .1) (omega arith) in search needs
 
+-- src/lib.rt:153:1
 returns : tie.Need-returns Inv-loop μ-loop
 returns c = marks-all (omega arith) (c .before .loop .inv .1)
 
@@ -64,8 +64,6 @@ made-spec =
     Inv-loop
     μ-loop
     loop-holds
-    shared-slice-read-wide
-    wide-requires
     mul-mark
     shared-slice-read-mark
     mark-requires

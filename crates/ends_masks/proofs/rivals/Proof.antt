@@ -10,10 +10,10 @@ use Rattle.ends_masks.proofs.rivals.Statement.{statement}
 use Rattle.ends_masks.proofs.rivals.Tie as tie
 
 abbrev Inv-loop : tie.InvT-loop
-Inv-loop foes makers ends n k w₀ j₀ w j = (j ≤ n) × Marks (rival foes makers ends k) j w
+Inv-loop foes makers n k w₀ j₀ w j = (j ≤ n) × Marks (rival foes makers k) j w
 
 abbrev μ-loop : tie.MeasureT-loop
-μ-loop foes makers ends n k w₀ j₀ w j = n - j
+μ-loop foes makers n k w₀ j₀ w j = n - j
 
 loop-holds : tie.Need-loop-holds Inv-loop μ-loop
 loop-holds c = (search needs, marks-nil _)

@@ -1,7 +1,6 @@
 -- `gain`: one edge after the other, until one is full. Assumes nothing.
 use Prim.Native.Nat.{ℕ, _≤_, _<_, _-_, _+_}
 use mathlib.Core.Path.{_≡_, sym, ap, subst, _∙_}
-use mathlib.Core.Bool.{Bool}
 use mathlib.Core.Logic.{⊎-elim}
 use mathlib.Core.List.{List}
 use native.Mathlib.Omega.{arith}
@@ -9,23 +8,32 @@ use lib.ListN.{length, length-set}
 use Rattle.paper.specs.Lists.{at}
 use Rattle.paper.specs.Table.{edges}
 use Rattle.table.proofs.Reading.{read-spans}
-use Rattle.marking_give.specs.Giving.{Fires, CountsHeld}
+use Rattle.marking_give.specs.Giving.{firesAs, CountsHeld}
 use Rattle.marking_give.proofs.GainLaws.{GainedTo, gained-begin, gained-full, gained-one, gained-none, gained-all, gained-not}
 use borrow.Author.Needs.{needs}
 use Rattle.marking_give.proofs.gain.Statement.{statement}
 use Rattle.marking_give.proofs.gain.Tie as tie
 
 abbrev Inv-loop : tie.InvT-loop
-Inv-loop t table fire tokens₀ n j₀ tokens j = (j ≤ n) × (length tokens ≡ length tokens₀) × ((fires : ℕ → Bool) (held : ℕ → ℕ) → Fires t fires fire → (h : CountsHeld t held tokens₀) (small : (k : ℕ) → at tokens₀ k < 256) → GainedTo t fires held tokens₀ h small tokens j)
+Inv-loop t table firing tokens₀ n j₀ tokens j = (j ≤ n) × (length tokens ≡ length tokens₀)
+    × ((held : ℕ → ℕ) (h : CountsHeld t held tokens₀) (small : (k : ℕ) → at tokens₀ k < 256) → GainedTo t (firesAs t firing) held tokens₀ h small tokens j)
 
 abbrev μ-loop : tie.MeasureT-loop
-μ-loop t table fire tokens₀ n j₀ tokens j = n - j
+μ-loop t table firing tokens₀ n j₀ tokens j = n - j
+
+-- ---- the places of the function
+abbrev entry : tie.In-loop Inv-loop μ-loop → tie.Start Inv-loop μ-loop
+entry c = c .before .before .before .before
 
 loop-holds : tie.Need-loop-holds Inv-loop μ-loop
-loop-holds c = let a = c .before .before .before .args in (omega arith, search needs, λ fires held f h small. gained-begin (a .t .now) fires held (a .tokens .now) h small)
+loop-holds c = let a = c .before .before .args in (
+  omega arith,
+  search needs,
+  λ held h small. gained-begin (a .t .now) (firesAs (a .t .now) (a .firing)) held (a .tokens .now) h small,
+)
 
 gains-requires : tie.Need-gains-requires Inv-loop μ-loop
-gains-requires c κs = let h = c .before .before .before .before .before .pre in (h .0, omega arith, h .1)
+gains-requires c κs = let h = c .before .before .before .before .pre in (h .0, omega arith)
 
 slice-read-if2 : tie.Need-slice-read-if2 Inv-loop μ-loop
 slice-read-if2 c = omega arith
@@ -34,13 +42,18 @@ same-length : tie.Need-same-length Inv-loop μ-loop
 same-length c = omega (arith, c .if2 .taken)
 
 returns : tie.Need-returns Inv-loop μ-loop
-returns c = let a = c .before .before .before .before .before .before .before .before .before .args in
-    let s = c .before .before .before .before .before .loop in
-    let r = read-spans (a .t .now) (c .before .before .before .before .before .before .before .before .before .pre .0) in
-    λ fires held f h.
-    let small : (k : ℕ) → at (a .tokens .now) k < 256 = λ k. (c .before .before .before .before .before .before .slice-known .given k) .fits in
-    let g = s .inv .2 fires held f h small in
-    gained-not (a .t .now) fires held (a .tokens .now) h small (s .tokens) (s .j) (omega arith) (gained-full (a .t .now) fires held (a .tokens .now) h small (s .tokens) (s .j) (omega arith) g (sym (c .before .before .before .gains .ensures fires f) ∙ c .before .before .if1 .taken) (c .if2 .taken))
+returns c = let l = c .before .before .before .before in
+    let b = entry l in
+    let a = b .args in
+    let s = l .before .loop in
+    let fires = firesAs (a .t .now) (a .firing) in
+    let r = read-spans (a .t .now) (b .pre .0) in
+    λ held h.
+    let small : (k : ℕ) → at (a .tokens .now) k < 256 = λ k. (l .before .before .slice-known .given k) .fits in
+    let n : s .j < edges (a .t .now) = omega (arith, r .edges-read, l .loop-test .taken) in
+    gained-not (a .t .now) fires held (a .tokens .now) h small (s .tokens) (s .j) n
+    (gained-full (a .t .now) fires held (a .tokens .now) h small (s .tokens) (s .j) n (s .inv .2 held h small) (c .before .before .before .gains .ensures)
+    (c .before .before .if1 .taken) (c .if2 .taken))
 
 slice-read-tokens : tie.Need-slice-read-tokens Inv-loop μ-loop
 slice-read-tokens c = search needs
@@ -49,29 +62,35 @@ add-tokens : tie.Need-add-tokens Inv-loop μ-loop
 add-tokens c = omega (arith, (c .slice-known3 .given (c .before .before .before .before .before .before .loop .j)) .fits)
 
 slice-write-tokens : tie.Need-slice-write-tokens Inv-loop μ-loop
-slice-write-tokens c = omega (arith, c .before .before .before .before .before .before .before .before .before .before .pre)
+slice-write-tokens c = omega (arith, c .before .before .before .before .before .before .before .before .before .pre)
 
 add-j : tie.Need-add-j Inv-loop μ-loop
 add-j c = search needs
 
 loop-less : tie.Need-loop-less Inv-loop μ-loop
-loop-less c = omega (arith, c .before .before .loop-test .taken, c .before .before .before .before .before .before .before .pre)
+loop-less c = omega (arith, c .before .before .loop-test .taken, c .before .before .before .before .before .before .pre)
 
 loop-again : tie.Need-loop-again Inv-loop μ-loop
-loop-again c = let a = c .before .before .before .before .before .before .before .args in
+loop-again c = let b = c .before .before .before .before .before .before in
+    let a = b .args in
     let s = c .before .before .before .loop in
-    let r = read-spans (a .t .now) (c .before .before .before .before .before .before .before .pre .0) in
+    let fires = firesAs (a .t .now) (a .firing) in
+    let r = read-spans (a .t .now) (b .pre .0) in
+    let n : s .j < edges (a .t .now) = omega (arith, r .edges-read, c .before .before .loop-test .taken) in
     ⊎-elim (λ w. (
       omega arith,
       ap length (w .4) ∙ length-set (s .tokens) (s .j) _ ∙ s .inv .1,
-      λ fires held f h small.
-          subst (λ (l : List ℕ). GainedTo (a .t .now) fires held (a .tokens .now) h small l (s .j + 1)) (sym (w .4)) (gained-one (a .t .now) fires held (a .tokens .now) h small (s .tokens) (s .j) (omega arith) (s .inv .2 fires held f h small) (omega arith) (sym (c .before .gains .ensures fires f) ∙ w .0 .taken) (w .2 .left)),
+      λ held h small.
+          subst (λ (l : List ℕ). GainedTo (a .t .now) fires held (a .tokens .now) h small l (s .j + 1)) (sym (w .4))
+          (gained-one (a .t .now) fires held (a .tokens .now) h small (s .tokens) (s .j) n (s .inv .2 held h small) (c .before .gains .ensures)
+          (omega arith) (w .0 .taken) (w .2 .left)),
     ))
     (λ w. (
       omega arith,
       ap length (w .1) ∙ s .inv .1,
-      λ fires held f h small.
-          subst (λ (l : List ℕ). GainedTo (a .t .now) fires held (a .tokens .now) h small l (s .j + 1)) (sym (w .1)) (gained-none (a .t .now) fires held (a .tokens .now) h small (s .tokens) (s .j) (omega arith) (s .inv .2 fires held f h small) (sym (c .before .gains .ensures fires f) ∙ w .0 .left)),
+      λ held h small.
+          subst (λ (l : List ℕ). GainedTo (a .t .now) fires held (a .tokens .now) h small l (s .j + 1)) (sym (w .1))
+          (gained-none (a .t .now) fires held (a .tokens .now) h small (s .tokens) (s .j) n (s .inv .2 held h small) (c .before .gains .ensures) (w .0 .left)),
     ))
     (c .if1 .came)
 
@@ -79,13 +98,16 @@ same-length-2 : tie.Need-same-length-2 Inv-loop μ-loop
 same-length-2 c = omega (arith, c .loop-test .left)
 
 returns-2 : tie.Need-returns-2 Inv-loop μ-loop
-returns-2 c = let a = c .before .before .before .before .before .args in
+returns-2 c = let b = c .before .before .before .before in
+    let a = b .args in
     let s = c .before .loop in
-    let r = read-spans (a .t .now) (c .before .before .before .before .before .pre .0) in
+    let fires = firesAs (a .t .now) (a .firing) in
+    let r = read-spans (a .t .now) (b .pre .0) in
     let e : s .j ≡ edges (a .t .now) = omega arith in
-    λ fires held f h.
+    λ held h.
     let small : (k : ℕ) → at (a .tokens .now) k < 256 = λ k. (c .before .before .slice-known .given k) .fits in
-    gained-all (a .t .now) fires held (a .tokens .now) h small (s .tokens) (subst (λ (j : ℕ). GainedTo (a .t .now) fires held (a .tokens .now) h small (s .tokens) j) e (s .inv .2 fires held f h small))
+    gained-all (a .t .now) fires held (a .tokens .now) h small (s .tokens)
+    (subst (λ (j : ℕ). GainedTo (a .t .now) fires held (a .tokens .now) h small (s .tokens) j) e (s .inv .2 held h small))
 
 pub gain-spec : {M : Type 1} → statement M
 gain-spec =

@@ -1,137 +1,209 @@
 -- `give`: the lists (15), then the stocks and the counts (16). Assumes nothing.
-use mathlib.Core.Path.{subst, _≡_, sym, _∙_}
-use Rattle.paper.specs.Operations.{valueLists}
-use Rattle.marking.specs.Values.{listedNodes, ValuesRead}
-use Rattle.marking.specs.declared.values.ValuesAnswer.{ValuesAnswer}
+use mathlib.Core.Bool.{Bool}
+use mathlib.Core.Path.{subst, sym, _∙_}
+use mathlib.Core.List.{List}
+use Prim.Native.Nat.{ℕ}
 use native.Mathlib.Omega.{arith}
 use borrow.Author.Tests.{not-true, not-false}
-use Rattle.table.proofs.Reading.{read-spans, read-good}
-use Rattle.marking.specs.declared.values.ValuesAnswer.the-variants.{Good, Refused}
+use Rattle.paper.specs.Operations.{valueLists}
+use Rattle.paper.proofs.Bytes.{Bytes}
+use Rattle.table.proofs.Reading.{read-spans, read-good, most-nodes, most-edges}
+use Rattle.marking.specs.Values.{listedNodes, ValuesRead}
+use Rattle.marking.specs.declared.values.ValuesAnswer.{ValuesAnswer}
+use Rattle.marking.specs.declared.values.ValuesAnswer.the-variants.{Good}
+use Rattle.marking_held.specs.MarkingHeld.{HeldLengths}
+use Rattle.marking_give.specs.Giving.{firesAs}
 use Rattle.marking_give.proofs.GivingLaws.{gives-15, gives-16-stocks, gives-16-counts, gives-all, amounts}
 use borrow.Author.Needs.{needs}
 use Rattle.marking_give.proofs.give.Statement.{statement}
 use Rattle.marking_give.proofs.give.Tie as tie
 
+-- ---- the places of the function, each from the next
+abbrev entry : tie.After-read-values → tie.Start
+entry c = c .before .before .before .before .before
+
+abbrev lists-read : tie.After-enum-told → tie.After-read-values
+lists-read c = c .before .before .before .before
+
+abbrev lists-good : tie.After-stocks-fit → tie.After-enum-told
+lists-good c = c .before .before .before .before
+
+abbrev stocks-asked : tie.After-gain → tie.After-stocks-fit
+stocks-asked c = c .before .before .before .before
+
+abbrev counts-gained : tie.After-narrow → tie.After-gain
+counts-gained c = c .before .before .before .before .before .before
+
+-- ---- what was read, by the place where the lists are known to be good
+module _ (c : tie.After-enum-told) where
+  abbrev start : tie.Start
+  start = entry (lists-read c)
+
+  abbrev t : List ℕ
+  t = start .args .t .now
+
+  abbrev kind : ℕ
+  kind = start .args .listing .kind
+
+  abbrev owner : ℕ
+  owner = start .args .listing .owner
+
+  abbrev values : List ℕ
+  values = start .args .values .now
+
+  abbrev fires : ℕ → Bool
+  fires = firesAs t (start .args .firing)
+
+  abbrev places : List ℕ
+  places = lists-read c .read-values .last .1 .1 .1 .1 .1 .0
+
+  abbrev more : List ℕ
+  more = lists-read c .read-values .last .1 .1 .1 .1 .1 .1 .0
+
+  are-good : ValuesRead t kind owner values places more (valueLists (listedNodes t kind owner) values) Good
+  are-good = subst (λ (r : ValuesAnswer). ValuesRead t kind owner values places more (valueLists (listedNodes t kind owner) values) r)
+      (c .enum-told .given .1) (lists-read c .read-values .ensures)
+
+slice-aggregate-read-values : tie.Need-slice-aggregate-read-values
+slice-aggregate-read-values c = search needs
+
+slice-aggregate-read-values-2 : tie.Need-slice-aggregate-read-values-2
+slice-aggregate-read-values-2 c = search needs
+
 read-values-requires : tie.Need-read-values-requires
-read-values-requires c κs = let h = c .before .before .before .before .before .before .before .before .before .pre in (read-spans (c .before .before .before .before .before .before .before .before .before .args .t .now) (h .0), h .3, h .4)
+read-values-requires c κs = let b = c .before .before .before .before in
+    let t = b .args .t .now in
+    (read-spans t (b .pre .0), most-nodes t (b .pre .0), most-nodes t (b .pre .0))
 
 enum-known-number : tie.Need-enum-known-number
-enum-known-number c = omega arith
+enum-known-number c = search needs
 
-same-length : tie.Need-same-length
-same-length c = c .before .before .before .before .before .before .before .read-values .kept .1 .1 .1 .1 .1 .0
-
-same-length-2 : tie.Need-same-length-2
-same-length-2 c = c .before .before .before .before .before .before .before .read-values .kept .1 .1 .1 .1 .1 .1 .0
+refused-requires : tie.Need-refused-requires
+refused-requires c κs = search needs
 
 returns : tie.Need-returns
-returns c = let a = c .before .before .before .before .before .before .before .before .before .before .before .before .before .before .before .before .before .args in
-    let v = c .before .before .before .before .before .before .before .read-values in
-    let t = a .t .now in
-    let b = a .b .now in
-    let e : v .result ≡ Refused (c .before .number .given .0 .0) (c .before .number .given .0 .1 .0) = c .before .number .given .1 in
-    let h = subst (λ (r : ValuesAnswer). ValuesRead t (a .kind) (a .owner) b (v .last .1 .1 .1 .1 .1 .0) (v .last .1 .1 .1 .1 .1 .1 .0) (valueLists (listedNodes t (a .kind) (a .owner)) b) r) e (v .ensures) in
-    λ fires m old from runs lf lr ready.
-    gives-15 t (a .kind) (a .owner) fires m b old from (a .kept .now) (v .last .1 .1 .1 .1 .1 .0) (v .last .1 .1 .1 .1 .1 .1 .0) runs (a .tokens .now) (a .tokens .now) (a .fire .now) ready _ _ h
+returns c = let v = c .before .before .before .before .before .before in
+    let b = entry v in
+    let a = b .args in
+    let r = v .read-values in
+    let z = c .refused .ensures in
+    let n = c .before .before .number .given in
+    let h = subst (λ (x : ValuesAnswer). ValuesRead (a .t .now) (a .listing .kind) (a .listing .owner) (a .values .now) (r .last .1 .1 .1 .1 .1 .0)
+    (r .last .1 .1 .1 .1 .1 .1 .0) (valueLists (listedNodes (a .t .now) (a .listing .kind) (a .listing .owner)) (a .values .now)) x) (n .1) (r .ensures) in (
+      subst HeldLengths (sym (z .1)) (b .pre .1),
+      λ m old g. gives-15 (a .t .now) (a .listing .kind) (a .listing .owner) (firesAs (a .t .now) (a .firing)) m (a .values .now) old (a .held) g
+          (r .last .1 .1 .1 .1 .1 .0) (r .last .1 .1 .1 .1 .1 .1 .0) _ _ (c .refused .result) (z .0) h,
+    )
 
 enum-told : tie.Need-enum-told
 enum-told c = search needs
 
+slice-aggregate-stocks-fit : tie.Need-slice-aggregate-stocks-fit
+slice-aggregate-stocks-fit c = search needs
+
+slice-aggregate-stocks-fit-2 : tie.Need-slice-aggregate-stocks-fit-2
+slice-aggregate-stocks-fit-2 c = search needs
+
 stocks-fit-requires : tie.Need-stocks-fit-requires
-stocks-fit-requires c κs = let h = c .before .before .before .before .before .before .before .before .before .before .before .before .before .before .before .before .before .pre in (read-spans (c .before .before .before .before .before .before .before .before .before .before .before .before .before .before .before .before .before .args .t .now) (h .0), h .2, omega (arith, c .before .before .before .before .before .before .before .read-values .kept))
+stocks-fit-requires c κs = let v = lists-read (c .before .before .before) in
+    let b = entry v in
+    let n = most-nodes (b .args .t .now) (b .pre .0) in
+    (read-spans (b .args .t .now) (b .pre .0), omega (arith, n, b .pre .1 .kept-long), omega (arith, n, v .read-values .kept))
 
-same-length-3 : tie.Need-same-length-3
-same-length-3 c = c .before .before .before .before .before .before .before .before .before .read-values .kept .1 .1 .1 .1 .1 .0
-
-same-length-4 : tie.Need-same-length-4
-same-length-4 c = c .before .before .before .before .before .before .before .before .before .read-values .kept .1 .1 .1 .1 .1 .1 .0
+refused-requires-2 : tie.Need-refused-requires-2
+refused-requires-2 c κs = search needs
 
 returns-2 : tie.Need-returns-2
-returns-2 c = let a = c .before .before .before .before .before .before .before .before .before .before .before .before .before .before .before .before .before .before .before .args in
-    let v = c .before .before .before .before .before .before .before .before .before .read-values in
-    let t = a .t .now in
-    let b = a .b .now in
-    let e : v .result ≡ Good = c .before .before .before .enum-told .given .1 in
-    let h = subst (λ (r : ValuesAnswer). ValuesRead t (a .kind) (a .owner) b (v .last .1 .1 .1 .1 .1 .0) (v .last .1 .1 .1 .1 .1 .1 .0) (valueLists (listedNodes t (a .kind) (a .owner)) b) r) e (v .ensures) in
-    λ fires m old from runs lf lr ready.
-    let am = amounts t (a .kind) (a .owner) fires m b old from (a .kept .now) (v .last .1 .1 .1 .1 .1 .0) (v .last .1 .1 .1 .1 .1 .1 .0) runs (a .tokens .now) (a .tokens .now) (a .fire .now) ready h in
-    gives-16-stocks t (a .kind) (a .owner) fires m b old from (a .kept .now) (v .last .1 .1 .1 .1 .1 .0) (v .last .1 .1 .1 .1 .1 .1 .0) runs (a .tokens .now) (a .tokens .now) (a .fire .now) ready h
-    (sym (c .before .stocks-fit .ensures _ am) ∙ not-true _ (c .if1 .taken))
+returns-2 c = let f = c .before .before in
+    let d = lists-good f in
+    let s = start d in
+    let z = c .refused2 .ensures in (
+      subst HeldLengths (sym (z .1)) (s .pre .1),
+      λ m old g.
+          gives-16-stocks (t d) (kind d) (owner d) (fires d) m (values d) old (s .args .held) g (places d) (more d) (are-good d) (c .refused2 .result) (z .0)
+          (sym (f .stocks-fit .ensures _ (amounts (t d) (kind d) (owner d) (fires d) m (values d) old (s .args .held) g (places d) (more d) (are-good d)))
+          ∙ not-true _ (c .before .if1 .taken)),
+    )
+
+slice-aggregate-gain : tie.Need-slice-aggregate-gain
+slice-aggregate-gain c = search needs
 
 gain-requires : tie.Need-gain-requires
-gain-requires c κs = let h = c .before .before .before .before .before .before .before .before .before .before .before .before .before .before .before .before .before .before .before .before .pre in (h .0, h .1, h .5)
+gain-requires c κs = let b = entry (lists-read (lists-good (c .before .before .before))) in
+    (b .pre .0, omega (arith, most-edges (b .args .t .now) (b .pre .0), b .pre .1 .tokens-long))
 
-same-length-5 : tie.Need-same-length-5
-same-length-5 c = c .before .before .before .before .before .before .before .before .before .before .before .before .before .before .read-values .kept .1 .1 .1 .1 .1 .0
-
-same-length-6 : tie.Need-same-length-6
-same-length-6 c = c .before .before .before .before .before .before .before .before .before .before .before .before .before .before .read-values .kept .1 .1 .1 .1 .1 .1 .0
-
-same-length-7 : tie.Need-same-length-7
-same-length-7 c = c .before .before .before .gain .kept .1 .1 .1 .0
+refused-requires-3 : tie.Need-refused-requires-3
+refused-requires-3 c κs = search needs
 
 returns-3 : tie.Need-returns-3
-returns-3 c = let a = c .before .before .before .before .before .before .before .before .before .before .before .before .before .before .before .before .before .before .before .before .before .before .before .before .args in
-    let v = c .before .before .before .before .before .before .before .before .before .before .before .before .before .before .read-values in
-    let w = c .before .before .before .gain in
-    let t = a .t .now in
-    let b = a .b .now in
-    let e : v .result ≡ Good = c .before .before .before .before .before .before .before .before .enum-told .given .1 in
-    let h = subst (λ (r : ValuesAnswer). ValuesRead t (a .kind) (a .owner) b (v .last .1 .1 .1 .1 .1 .0) (v .last .1 .1 .1 .1 .1 .1 .0) (valueLists (listedNodes t (a .kind) (a .owner)) b) r) e (v .ensures) in
-    λ fires m old from runs lf lr ready.
-    let am = amounts t (a .kind) (a .owner) fires m b old from (a .kept .now) (v .last .1 .1 .1 .1 .1 .0) (v .last .1 .1 .1 .1 .1 .1 .0) runs (a .tokens .now) (w .last .1 .1 .1 .0) (a .fire .now) ready h in
-    let fit = sym (c .before .before .before .before .before .before .stocks-fit .ensures _ am) ∙ not-false _ (c .before .before .before .before .before .if1 .left) in
-    let g = w .ensures fires (m .tokens) (ready .firing) (ready .counts-held) in
-    gives-16-counts t (a .kind) (a .owner) fires m b old from (a .kept .now) (v .last .1 .1 .1 .1 .1 .0) (v .last .1 .1 .1 .1 .1 .1 .0) runs (a .tokens .now) (w .last .1 .1 .1 .0) (a .fire .now) ready h fit
-    (sym (not-true _ (c .if2 .taken)) ∙ g .0, λ r. g .1 (not-true _ (c .if2 .taken) ∙ r))
+returns-3 c = let w = c .before .before .before in
+    let f = stocks-asked w in
+    let d = lists-good f in
+    let s = start d in
+    let z = c .refused3 .ensures in
+    let q = not-true _ (c .before .if2 .taken) in (
+      subst HeldLengths (sym (z .1)) (s .pre .1),
+      λ m old g.
+          let am = amounts (t d) (kind d) (owner d) (fires d) m (values d) old (s .args .held) g (places d) (more d) (are-good d) in
+          let fit = sym (f .stocks-fit .ensures _ am) ∙ not-false _ (w .before .before .before .if1 .left) in
+          let e = w .gain .ensures (m .tokens) (record { counts = g .held .counts; none = g .no-count }) in
+          gives-16-counts (t d) (kind d) (owner d) (fires d) m (values d) old (s .args .held) g (places d) (more d) (are-good d) fit (c .refused3 .result)
+          (z .0) (w .gain .last .1 .1 .1 .0)
+          (sym q ∙ e .0, λ r. e .1 (q ∙ r)),
+    )
 
-same-length-8 : tie.Need-same-length-8
-same-length-8 c = c .before .before .before .before .before .before .before .before .before .before .before .before .before .before .read-values .kept .1 .1 .1 .1 .1 .0
+slice-aggregate-narrow : tie.Need-slice-aggregate-narrow
+slice-aggregate-narrow c = search needs
 
-same-length-9 : tie.Need-same-length-9
-same-length-9 c = c .before .before .before .before .before .before .before .before .before .before .before .before .before .before .read-values .kept .1 .1 .1 .1 .1 .1 .0
-
-same-length-10 : tie.Need-same-length-10
-same-length-10 c = c .before .before .before .gain .kept .1 .1 .1 .0
+narrow-requires : tie.Need-narrow-requires
+narrow-requires c κs = let v = lists-read (lists-good (stocks-asked (c .before .before .before .before .before))) in omega (arith, v .read-values .kept)
 
 returns-4 : tie.Need-returns-4
-returns-4 c = let a = c .before .before .before .before .before .before .before .before .before .before .before .before .before .before .before .before .before .before .before .before .before .before .before .before .args in
-    let v = c .before .before .before .before .before .before .before .before .before .before .before .before .before .before .read-values in
-    let w = c .before .before .before .gain in
-    let t = a .t .now in
-    let b = a .b .now in
-    let p = c .before .before .before .before .before .before .before .before .before .before .before .before .before .before .before .before .before .before .before .before .before .before .before .before .pre in
-    let sp = read-spans t (p .0) in
-    let e : v .result ≡ Good = c .before .before .before .before .before .before .before .before .enum-told .given .1 in
-    let h = subst (λ (r : ValuesAnswer). ValuesRead t (a .kind) (a .owner) b (v .last .1 .1 .1 .1 .1 .0) (v .last .1 .1 .1 .1 .1 .1 .0) (valueLists (listedNodes t (a .kind) (a .owner)) b) r) e (v .ensures) in
-    λ fires m old from runs lf lr ready.
-    let am = amounts t (a .kind) (a .owner) fires m b old from (a .kept .now) (v .last .1 .1 .1 .1 .1 .0) (v .last .1 .1 .1 .1 .1 .1 .0) runs (a .tokens .now) (w .last .1 .1 .1 .0) (a .fire .now) ready h in
-    let fit = sym (c .before .before .before .before .before .before .stocks-fit .ensures _ am) ∙ not-false _ (c .before .before .before .before .before .if1 .left) in
-    let g = w .ensures fires (m .tokens) (ready .firing) (ready .counts-held) in
-    gives-all t (a .kind) (a .owner) fires m b old from (a .kept .now) (v .last .1 .1 .1 .1 .1 .0) (v .last .1 .1 .1 .1 .1 .1 .0) runs (a .tokens .now) (w .last .1 .1 .1 .0) (a .fire .now) ready h fit
-    (read-good t (p .0)) (omega (arith, sp .nodes-read, lf)) (omega (arith, sp .nodes-read, p .2)) (omega (arith, sp .nodes-read, p .3, v .kept .1 .1 .1 .1 .1 .0)) (omega (arith, sp .nodes-read, p .4, v .kept .1 .1 .1 .1 .1 .1 .0)) (omega (arith, sp .nodes-read, lr)) (omega (arith, sp .edges-read, p .5, w .kept .1 .1 .1 .0))
-    (sym (not-false _ (c .if2 .left)) ∙ g .0, λ r. g .1 (not-false _ (c .if2 .left) ∙ r))
+returns-4 c = let w = counts-gained c in
+    let f = stocks-asked w in
+    let d = lists-good f in
+    let s = start d in
+    let n = c .narrow .ensures in
+    let l = s .pre .1 in
+    let u : Bytes (values d) = λ k. (lists-read d .before .before .before .shared-slice-known2 .given k) .fits in (
+      record {
+        from-long = l .from-long;
+        kept-long = l .kept-long;
+        place-long = n .long;
+        more-long = omega (arith, lists-read d .read-values .kept);
+        runs-long = l .runs-long;
+        tokens-long = omega (arith, l .tokens-long, w .gain .kept);
+      },
+      λ m old g.
+          let am = amounts (t d) (kind d) (owner d) (fires d) m (values d) old (s .args .held) g (places d) (more d) (are-good d) in
+          let fit = sym (f .stocks-fit .ensures _ am) ∙ not-false _ (w .before .before .before .if1 .left) in
+          let e = w .gain .ensures (m .tokens) (record { counts = g .held .counts; none = g .no-count }) in
+          let q = not-false _ (c .before .before .before .before .if2 .left) in
+          gives-all (t d) (kind d) (owner d) (fires d) m (values d) old (s .args .held) g (places d) (more d) (are-good d) fit
+          (read-good (t d) (s .pre .0)) (read-spans (t d) (s .pre .0) .few-nodes) u n (w .gain .last .1 .1 .1 .0)
+          (sym q ∙ e .0, λ r. e .1 (q ∙ r)),
+    )
 
 pub give-spec : {M : Type 1} → statement M
 give-spec =
     tie.close
     (tie.spec
+    slice-aggregate-read-values
+    slice-aggregate-read-values-2
     read-values-requires
     enum-known-number
-    same-length
-    same-length-2
+    refused-requires
     returns
     enum-told
+    slice-aggregate-stocks-fit
+    slice-aggregate-stocks-fit-2
     stocks-fit-requires
-    same-length-3
-    same-length-4
+    refused-requires-2
     returns-2
+    slice-aggregate-gain
     gain-requires
-    same-length-5
-    same-length-6
-    same-length-7
+    refused-requires-3
     returns-3
-    same-length-8
-    same-length-9
-    same-length-10
+    slice-aggregate-narrow
+    narrow-requires
     returns-4)

@@ -1,25 +1,21 @@
 -- `hold_edges` takes up the counts, one after the other. Assumes nothing.
-use Prim.Native.Nat.{ℕ, _≤_, _-_}
-use mathlib.Core.Path.{_≡_, _∙_}
-use mathlib.Core.List.{List}
+use mathlib.Core.Path.{_≡_}
+use Prim.Native.Nat.{_≤_, _-_}
 use native.Mathlib.Omega.{arith}
-use lib.ListN.{length, length-set}
-use Rattle.paper.specs.Marking.{Marking}
-use Rattle.marking.specs.Reading.{EdgesNoted}
-use Rattle.marking_held.specs.Holding.{EdgesHeld}
-use Rattle.marking_held.proofs.HoldingLaws.{counts-more}
+use Rattle.marking_held.specs.MarkingHeld.{EdgesHeldIn}
+use Rattle.marking_held.proofs.HeldLaws.{edges-begin, edges-more}
 use borrow.Author.Needs.{needs}
 use Rattle.marking_held.proofs.hold_edges.Statement.{statement}
 use Rattle.marking_held.proofs.hold_edges.Tie as tie
 
 abbrev Inv-loop : tie.InvT-loop
-Inv-loop b counts tokens₀ n j₀ tokens j = (j ≤ n) × (length tokens ≡ length tokens₀) × ((t : List ℕ) (m : Marking) → EdgesNoted t m b counts n → EdgesHeld t (m .tokens) tokens j)
+Inv-loop b counts held₀ n j₀ held j = (j ≤ n) × EdgesHeldIn b counts j held₀ held
 
 abbrev μ-loop : tie.MeasureT-loop
-μ-loop b counts tokens₀ n j₀ tokens j = n - j
+μ-loop b counts held₀ n j₀ held j = n - j
 
 loop-holds : tie.Need-loop-holds Inv-loop μ-loop
-loop-holds c = search needs
+loop-holds c = let s = c .before .before in (omega arith, edges-begin (s .args .b .now) (s .args .counts .now) (s .args .t4) (s .pre .2))
 
 mul-byte-at : tie.Need-mul-byte-at Inv-loop μ-loop
 mul-byte-at c = search needs
@@ -30,8 +26,8 @@ shared-slice-read-byte-at c = search needs
 byte-at-requires : tie.Need-byte-at-requires Inv-loop μ-loop
 byte-at-requires c κs = search needs
 
-slice-write-tokens : tie.Need-slice-write-tokens Inv-loop μ-loop
-slice-write-tokens c = search needs
+element-write-held : tie.Need-element-write-held Inv-loop μ-loop
+element-write-held c = search needs
 
 add-j : tie.Need-add-j Inv-loop μ-loop
 add-j c = search needs
@@ -41,15 +37,12 @@ loop-less c = search needs
 
 loop-again : tie.Need-loop-again Inv-loop μ-loop
 loop-again c = let s = c .before .before .before .loop in
-    (omega arith, length-set (s .tokens) (s .j) _ ∙ s .inv .1, λ t m h. counts-more (s .tokens) (s .j) (c .byte-at .result) (omega arith) (omega arith) h (s .inv .2 t m h) (c .byte-at .ensures))
-
-same-length : tie.Need-same-length Inv-loop μ-loop
-same-length c = search needs
+    (omega arith, edges-more (s .held) (s .j) (c .byte-at .result) (omega arith) (s .inv .1) (c .byte-at .ensures))
 
 returns : tie.Need-returns Inv-loop μ-loop
 returns c = let s = c .before .loop in
-    let e : s .j ≡ c .before .before .before .before .before .args .table .edges = omega arith in
-    λ t m h. rw e at (s .inv .2 t m h)
+    let e : s .j ≡ c .before .before .before .before .args .table .edges = omega arith in
+    rw e at (s .inv .1)
 
 pub hold-edges-spec : {M : Type 1} → statement M
 hold-edges-spec =
@@ -61,9 +54,8 @@ hold-edges-spec =
     mul-byte-at
     shared-slice-read-byte-at
     byte-at-requires
-    slice-write-tokens
+    element-write-held
     add-j
     loop-less
     loop-again
-    same-length
     returns)

@@ -16,17 +16,17 @@ slice-aggregate-read-2 c = search needs
 read-requires : tie.Need-read-requires
 read-requires c κs = let h = c .before .before .before .before .before .before .before .before .pre in let t = c .before .before .before .before .before .before .before .before .args .t .now in (h .0, most-nodes t (h .0), most-edges t (h .0))
 
-slice-aggregate-hold-nodes : tie.Need-slice-aggregate-hold-nodes
-slice-aggregate-hold-nodes c = search needs
+slice-aggregate-take-nodes : tie.Need-slice-aggregate-take-nodes
+slice-aggregate-take-nodes c = search needs
 
-hold-nodes-requires : tie.Need-hold-nodes-requires
-hold-nodes-requires c κs = let h = c .before .before .before .before .before .before .before .before .before .before .before .before .before .before .before .pre in let t = c .before .before .before .before .before .before .before .before .before .before .before .before .before .before .before .args .t .now in (omega (arith, most-nodes t (h .0), c .before .before .before .before .before .before .read .kept), h .1, h .2, h .3)
+take-nodes-requires : tie.Need-take-nodes-requires
+take-nodes-requires c κs = let h = c .before .before .before .before .before .before .before .before .before .before .before .before .before .before .before .pre in let t = c .before .before .before .before .before .before .before .before .before .before .before .before .before .before .before .args .t .now in (omega (arith, most-nodes t (h .0), c .before .before .before .before .before .before .read .kept), h .1, h .2, h .3)
 
-slice-aggregate-hold-edges : tie.Need-slice-aggregate-hold-edges
-slice-aggregate-hold-edges c = search needs
+slice-aggregate-take-edges : tie.Need-slice-aggregate-take-edges
+slice-aggregate-take-edges c = search needs
 
-hold-edges-requires : tie.Need-hold-edges-requires
-hold-edges-requires c κs = let h = c .before .before .before .before .before .before .before .before .before .before .before .before .before .before .before .before .before .before .before .before .before .before .before .before .pre in let t = c .before .before .before .before .before .before .before .before .before .before .before .before .before .before .before .before .before .before .before .before .before .before .before .before .args .t .now in (omega (arith, most-edges t (h .0), c .before .before .before .before .before .before .before .before .before .before .before .before .before .before .before .read .kept), h .4)
+take-edges-requires : tie.Need-take-edges-requires
+take-edges-requires c κs = let h = c .before .before .before .before .before .before .before .before .before .before .before .before .before .before .before .before .before .before .before .before .before .before .before .before .pre in let t = c .before .before .before .before .before .before .before .before .before .before .before .before .before .before .before .before .before .before .before .before .before .before .before .before .args .t .now in (omega (arith, most-edges t (h .0), c .before .before .before .before .before .before .before .before .before .before .before .before .before .before .before .read .kept), h .4)
 
 same-length : tie.Need-same-length
 same-length c = search needs
@@ -45,8 +45,8 @@ returns c = let a = c .before .before .before .before .before .before .before .b
     let t = a .t .now in
     let s = read-spans t (c .before .before .before .before .before .before .before .before .before .before .before .before .before .before .before .before .before .before .before .before .before .before .before .before .before .before .before .pre .0) in
     held-read t (a .b .now) (c .before .before .before .before .before .before .before .before .before .before .before .before .before .before .before .before .before .before .read .last .1 .1 .1 .0) (c .before .before .before .before .before .before .before .before .before .before .before .before .before .before .before .before .before .before .read .last .1 .1 .1 .1 .0) _ _ _ _ (marking t (a .b .now)) (c .before .before .before .before .before .before .before .before .before .before .before .before .before .before .before .before .before .before .read .result) (c .before .before .before .before .before .before .before .before .before .before .before .before .before .before .before .before .before .before .read .ensures)
-    (λ m h. rw (s .nodes-read) at (c .before .before .before .before .before .before .before .before .before .before .before .hold-nodes .ensures t m (rw (s .nodes-read) h)))
-    (λ m h. rw (s .edges-read) at (c .before .before .hold-edges .ensures t m (rw (s .edges-read) h)))
+    (λ m h. rw (s .nodes-read) at (c .before .before .before .before .before .before .before .before .before .before .before .take-nodes .ensures t m (rw (s .nodes-read) h)))
+    (λ m h. rw (s .edges-read) at (c .before .before .take-edges .ensures t m (rw (s .edges-read) h)))
 
 pub take-up-spec : {M : Type 1} → statement M
 take-up-spec =
@@ -55,10 +55,10 @@ take-up-spec =
     slice-aggregate-read
     slice-aggregate-read-2
     read-requires
-    slice-aggregate-hold-nodes
-    hold-nodes-requires
-    slice-aggregate-hold-edges
-    hold-edges-requires
+    slice-aggregate-take-nodes
+    take-nodes-requires
+    slice-aggregate-take-edges
+    take-edges-requires
     same-length
     same-length-2
     same-length-3

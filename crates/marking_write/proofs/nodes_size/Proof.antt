@@ -1,11 +1,12 @@
 -- `nodes_size` is what the nodes' fields take. The invariant: the sum of those passed, of which each is at most 2,041. Assumes nothing.
-use Prim.Native.Nat.{_*_, _≤_, _-_}
+use Rattle.marking_write.proofs.WritingLaws.{size-same}
 use mathlib.Core.Path.{_≡_}
+use Prim.Native.Nat.{_*_, _-_, _≤_}
 use native.Mathlib.Omega.{arith}
 use Rattle.paper.specs.Table.{nodes}
-use Rattle.marking_write.specs.Writing.{nodeSize}
 use Rattle.wire.specs.Totals.{total}
 use Rattle.wire.proofs.Runs.{total-more}
+use Rattle.marking_write.specs.Writing.{nodeSize}
 use borrow.Author.Needs.{needs}
 use Rattle.marking_write.proofs.nodes_size.Statement.{statement}
 use Rattle.marking_write.proofs.nodes_size.Tie as tie
@@ -20,6 +21,24 @@ loop-holds : tie.Need-loop-holds Inv-loop μ-loop
 unfolding total
 loop-holds c = search needs
 
+kind-requires : tie.Need-kind-requires Inv-loop μ-loop
+kind-requires c κs = search needs
+
+array-read-wide : tie.Need-array-read-wide Inv-loop μ-loop
+array-read-wide c = search needs
+
+wide-requires : tie.Need-wide-requires Inv-loop μ-loop
+wide-requires c κs = search needs
+
+array-read-wide-2 : tie.Need-array-read-wide-2 Inv-loop μ-loop
+array-read-wide-2 c = search needs
+
+wide-requires-2 : tie.Need-wide-requires-2 Inv-loop μ-loop
+wide-requires-2 c κs = search needs
+
+add-node-size : tie.Need-add-node-size Inv-loop μ-loop
+add-node-size c = search needs
+
 node-size-requires : tie.Need-node-size-requires Inv-loop μ-loop
 node-size-requires c κs = search needs
 
@@ -33,11 +52,14 @@ loop-less : tie.Need-loop-less Inv-loop μ-loop
 loop-less c = search needs
 
 loop-again : tie.Need-loop-again Inv-loop μ-loop
-loop-again c = let a = c .before .before .before .before .before .before .args in
-    (omega arith, omega (arith, total-more (nodeSize (a .t .now) (a .kept .now) (a .more .now)) (c .before .before .loop .i)), omega arith)
+loop-again c = let a = c .before .before .before .before .before .before .before .args in
+    let l = c .before .before .before .before .before .loop in
+    let e = size-same (a .t .now) (a .t3) (a .t4) (l .i) (c .before .before .before .kind .ensures .0) (c .before .before .wide .ensures .0)
+    (c .before .wide2 .ensures .0) (c .node-size .ensures .0) in
+    (omega arith, omega (arith, e, total-more (nodeSize (a .t .now) (a .t3) (a .t4)) (l .i)), omega (arith, c .node-size .ensures .1))
 
 returns : tie.Need-returns Inv-loop μ-loop
-returns c = let a = c .before .before .before .before .before .args in
+returns c = let a = c .before .before .before .args in
     let l = c .before .loop in
     let e : l .i ≡ nodes (a .t .now) = omega arith in
     (rw (← e) (l .inv .1), omega arith)
@@ -49,6 +71,12 @@ nodes-size-spec =
     Inv-loop
     μ-loop
     loop-holds
+    kind-requires
+    array-read-wide
+    wide-requires
+    array-read-wide-2
+    wide-requires-2
+    add-node-size
     node-size-requires
     add-taken
     add-i

@@ -1,5 +1,4 @@
 -- `size` is the head, the nodes' fields and the edges' counts. Assumes nothing.
-use native.Mathlib.Omega.{arith}
 use Rattle.table.proofs.Reading.{read-spans}
 use Rattle.marking_write.specs.Writing.{sizeOf}
 use borrow.Author.Needs.{needs}
@@ -7,9 +6,7 @@ use Rattle.marking_write.proofs.size.Statement.{statement}
 use Rattle.marking_write.proofs.size.Tie as tie
 
 nodes-size-requires : tie.Need-nodes-size-requires
-nodes-size-requires c κs = let p = c .before .before .before .pre in
-    let s = read-spans (c .before .before .before .args .t .now) (p .0) in
-    (s, omega arith, omega arith)
+nodes-size-requires c κs = let b = c .before .before .before in read-spans (b .args .t .now) (b .pre)
 
 add-result : tie.Need-add-result
 add-result c = search needs

@@ -13,16 +13,13 @@ has-count-requires : tie.Need-has-count-requires
 has-count-requires c κs = search needs
 
 returns : tie.Need-returns
-returns c = let a = c .before .before .before .before .before .args in
+returns c = let a = c .before .before .before .before .args in
     let k : counted (a .t .now) (a .j) ≡ false = sym (c .before .has-count .ensures) ∙ not-true _ (c .if1 .taken) in
-    (omega (arith, uncounted-size (a .t .now) (a .j) k), rw (uncounted-bytes (a .t .now) (a .tokens .now) (a .j) k))
-
-shared-slice-read-out : tie.Need-shared-slice-read-out
-shared-slice-read-out c = search needs
+    (omega (arith, uncounted-size (a .t .now) (a .j) k), λ l e. rw (uncounted-bytes (a .t .now) l (a .j) k))
 
 slice-write-out : tie.Need-slice-write-out
-slice-write-out c = let a = c .before .before .before .before .before .before .args in
-    let k : counted (a .t .now) (a .j) ≡ true = sym (c .before .before .has-count .ensures) ∙ not-false _ (c .before .if1 .left) in
+slice-write-out c = let a = c .before .before .before .before .args in
+    let k : counted (a .t .now) (a .j) ≡ true = sym (c .before .has-count .ensures) ∙ not-false _ (c .if1 .left) in
     omega (arith, count-size (a .t .now) (a .j) k)
 
 add-result : tie.Need-add-result
@@ -32,18 +29,11 @@ same-length : tie.Need-same-length
 same-length c = search needs
 
 returns-2 : tie.Need-returns-2
-returns-2 c = let a = c .before .before .before .before .before .before .args in
-    let k : counted (a .t .now) (a .j) ≡ true = sym (c .before .before .has-count .ensures) ∙ not-false _ (c .before .if1 .left) in
-    (omega (arith, count-size (a .t .now) (a .j) k), rw (count-bytes (a .t .now) (a .tokens .now) (a .j) k))
+returns-2 c = let a = c .before .before .before .before .args in
+    let k : counted (a .t .now) (a .j) ≡ true = sym (c .before .has-count .ensures) ∙ not-false _ (c .if1 .left) in
+    (omega (arith, count-size (a .t .now) (a .j) k), λ l e. rw (count-bytes (a .t .now) l (a .j) k, e))
 
 pub write-edge-spec : {M : Type 1} → statement M
 write-edge-spec =
     tie.close
-    (tie.spec
-    has-count-requires
-    returns
-    shared-slice-read-out
-    slice-write-out
-    add-result
-    same-length
-    returns-2)
+    (tie.spec has-count-requires returns slice-write-out add-result same-length returns-2)

@@ -1,6 +1,6 @@
 -- `write_stock` stores a count and two copies, each behind the other, which are one run. Assumes nothing.
-use mathlib.Core.Path.{_∙_}
-use Prim.Native.Nat.{_+_}
+use mathlib.Core.Path.{_≡_, _∙_}
+use Prim.Native.Nat.{_+_, _*_}
 use native.Mathlib.Omega.{arith}
 use lib.ListN.{length-set}
 use Rattle.marking_write.proofs.WritingLaws.{stock-written}
@@ -8,14 +8,30 @@ use borrow.Author.Needs.{needs}
 use Rattle.marking_write.proofs.write_stock.Statement.{statement}
 use Rattle.marking_write.proofs.write_stock.Tie as tie
 
-add-behind : tie.Need-add-behind
-add-behind c = omega arith
+-- ---- the places of the function
+abbrev entry : tie.After-copy → tie.Start
+entry c = c .before .before .before .before .before .before .before .before .before
+
+abbrev sized : tie.After-copy → tie.After-wide2
+sized c = c .before .before .before .before
+
+abbrev kept-copied : tie.After-copy2 → tie.After-copy
+kept-copied c = c .before .before .before .before .before
 
 wide-requires : tie.Need-wide-requires
 wide-requires c κs = search needs
 
-mul-behind : tie.Need-mul-behind
-mul-behind c = omega arith
+mul-kept : tie.Need-mul-kept
+mul-kept c = search needs
+
+wide-requires-2 : tie.Need-wide-requires-2
+wide-requires-2 c κs = search needs
+
+mul-more : tie.Need-mul-more
+mul-more c = search needs
+
+add-behind : tie.Need-add-behind
+add-behind c = search needs
 
 add-behind-2 : tie.Need-add-behind-2
 add-behind-2 c = search needs
@@ -26,69 +42,70 @@ add-out c = search needs
 slice-write-out : tie.Need-slice-write-out
 slice-write-out c = search needs
 
-wide-requires-2 : tie.Need-wide-requires-2
-wide-requires-2 c κs = search needs
-
-mul-copy : tie.Need-mul-copy
-mul-copy c = search needs
+place-of-requires : tie.Need-place-of-requires
+place-of-requires c κs = search needs
 
 add-copy : tie.Need-add-copy
-add-copy c = omega arith
+add-copy c = search needs
 
 copy-requires : tie.Need-copy-requires
-copy-requires c κs = (omega arith, simp length-set (omega arith))
+copy-requires c κs = let b = c .before .before .before .before .before .before .before .before in
+    let w = c .before .before .before .before .wide .ensures .0 in (
+      omega (arith, b .pre .0 .in-old, c .before .place-of .ensures .0, w),
+      omega (arith, b .pre .1, w, length-set (b .args .out .now) (b .args .to) (b .args .node .kept + b .args .node .more)),
+    )
 
-wide-requires-3 : tie.Need-wide-requires-3
-wide-requires-3 c κs = search needs
-
-mul-copy-2 : tie.Need-mul-copy-2
-mul-copy-2 c = omega arith
+place-of-requires-2 : tie.Need-place-of-requires-2
+place-of-requires-2 c κs = search needs
 
 copy-requires-2 : tie.Need-copy-requires-2
-copy-requires-2 c κs = let p = c .before .before .before .before .before .before .before .before .before .before .before .pre in
-    let a = c .before .before .before .before .before .before .before .before .before .before .before .args in
-    let m = c .before .wide3 .ensures .0 in
-    (omega (arith, p .2, m), omega (arith, p .3, m, c .before .before .before .before .before .before .before .wide .ensures .0, c .before .before .before .before .copy .kept .1 .1 .1 .0 ∙ length-set (a .out .now) (a .to) (a .kept + a .more)))
-
-wide-requires-4 : tie.Need-wide-requires-4
-wide-requires-4 c κs = search needs
-
-mul-result : tie.Need-mul-result
-mul-result c = omega arith
+copy-requires-2 c κs = let k = c .before .before .before .before in
+    let b = entry k in
+    let w = sized k .before .wide .ensures .0 in
+    let m = sized k .wide2 .ensures .0 in (
+      omega (arith, b .pre .0 .in-extra, c .before .place-of2 .ensures .0, m),
+      omega (arith, b .pre .1, m, w, k .copy .kept .1 .1 .1 .0 ∙ length-set (b .args .out .now) (b .args .to) (b .args .node .kept + b .args .node .more)),
+    )
 
 add-result : tie.Need-add-result
 add-result c = search needs
 
 same-length : tie.Need-same-length
-same-length c = let a = c .before .before .before .before .before .before .before .before .before .before .before .before .before .before .before .args in c .before .before .before .copy2 .kept .1 .1 .1 .0 ∙ c .before .before .before .before .before .before .before .before .copy .kept .1 .1 .1 .0 ∙ length-set (a .out .now) (a .to) (a .kept + a .more)
+same-length c = let k = kept-copied (c .before .before) in
+    let a = entry k .args in
+    c .before .before .copy2 .kept .1 .1 .1 .0 ∙ k .copy .kept .1 .1 .1 .0 ∙ length-set (a .out .now) (a .to) (a .node .kept + a .node .more)
 
 returns : tie.Need-returns
-returns c = let a = c .before .before .before .before .before .before .before .before .before .before .before .before .before .before .before .args in
-    let w = c .before .before .before .before .before .before .before .before .before .before .before .wide .ensures .0 in (
-      omega (arith, w, c .wide4 .ensures .0),
-      c .before .before .before .copy2 .ensures
-          ∙ stock-written (a .old .now) (a .from) (a .kept) (a .extra .now) (a .place) (a .more) (c .before .before .before .before .before .before .before .before .before .before .before .before .before .before .before .pre .1) (a .out .now) (a .to) (c .before .before .before .before .before .before .before .before .before .before .wide2 .ensures .0) (c .before .before .before .before .before .wide3 .ensures .0) (omega (arith, w)) (c .before .before .before .before .before .before .before .before .copy .ensures),
+returns c = let k = kept-copied (c .before .before) in
+    let b = entry k in
+    let a = b .args in
+    let w = sized k .before .wide in
+    let m = sized k .wide2 in
+    let ek : 4 * w .result ≡ 4 * a .node .kept = omega (arith, w .ensures .0) in
+    let em : 4 * m .result ≡ 4 * a .node .more = omega (arith, m .ensures .0) in
+    let ep : a .to + 1 + 4 * w .result ≡ a .to + 1 + 4 * a .node .kept = omega (arith, w .ensures .0) in (
+      omega (arith, w .ensures .0, m .ensures .0),
+      stock-written (a .old .now) (a .extra .now) (a .node) (b .pre .0) (a .out .now) (a .to) (k .before .before .place-of .ensures .0)
+          (c .before .before .before .before .place-of2 .ensures .0) ek em ep (k .copy .ensures) (c .before .before .copy2 .ensures),
     )
 
 pub write-stock-spec : {M : Type 1} → statement M
 write-stock-spec =
     tie.close
     (tie.spec
-    add-behind
     wide-requires
-    mul-behind
+    mul-kept
+    wide-requires-2
+    mul-more
+    add-behind
     add-behind-2
     add-out
     slice-write-out
-    wide-requires-2
-    mul-copy
+    place-of-requires
     add-copy
     copy-requires
-    wide-requires-3
-    mul-copy-2
+    place-of-requires-2
     copy-requires-2
-    wide-requires-4
-    mul-result
     add-result
     same-length
     returns)

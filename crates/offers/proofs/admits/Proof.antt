@@ -6,6 +6,10 @@ use Rattle.offers.proofs.Gates.{shut-bars, no-value-passes, unlisted-pa
 use Rattle.offers.proofs.admits.Statement.{statement}
 use Rattle.offers.proofs.admits.Tie as tie
 
+-- ---- places, each from a later one
+abbrev start-from-struct-known : tie.After-struct-known → tie.Start
+start-from-struct-known c = c .before
+
 returns : tie.Need-returns
 returns c = let a = c .before .before .args in sym (shut-bars (a .gate) (not-true _ (c .if1 .taken)) (valueOf (a .h) (a .v)))
 
@@ -24,7 +28,7 @@ returns-4 c =
 
 returns-5 : tie.Need-returns-5
 returns-5 c =
-    let a = c .before .before .before .before .before .before .before .before .args in
+    let a = start-from-struct-known (c .before .before .before .before .before .before .before) .args in
     sym (high-asked (a .gate) (a .h) (a .v) (not-false _ (c .before .before .before .before .before .before .if1 .left)) (c .before .before .before .before .before .if2 .left) (not-false _ (c .before .before .before .if3 .left)) (c .before .if4 .left))
 
 pub admits-spec : {M : Type 1} → statement M

@@ -54,8 +54,8 @@ returns-2 c = (
 extend-requires : tie.Need-extend-requires
 extend-requires c κs = search needs
 
-add-t9 : tie.Need-add-t9
-add-t9 c = search needs
+add-t7 : tie.Need-add-t7
+add-t7 c = search needs
 
 same-length : tie.Need-same-length
 same-length c = search needs
@@ -84,6 +84,6 @@ extend-one-spec =
     returns
     returns-2
     extend-requires
-    add-t9
+    add-t7
     same-length
     returns-3)

@@ -1,81 +1,203 @@
--- `pick_rules::add_destinations` meets its contract: the masks are filled, a word for each edge and node. Assumes nothing.
+-- `pick_rules::add_destinations` meets its contract: the masks are filled, a word for each edge and node, and the rows of rule 3 come one after the other. Assumes nothing.
+use mathlib.Core.Path.{_∙_, sym}
+use native.Mathlib.Nat.{le-trans, le-of-eq}
 use native.Mathlib.Omega.{arith}
-use borrow.Author.Needs.{needs}
 use Rattle.paper.specs.Limits.{limits}
 use Rattle.table.proofs.Reading.{most-nodes, most-edges, blank}
-use Rattle.pick_rules.proofs.Masks.{masks-of}
+use Rattle.choice_masks.proofs.Masking.{masks-of}
+use Rattle.pick_rules.proofs.Destinations.{destinations-added}
+use borrow.Author.Needs.{needs}
 use Rattle.pick_rules.proofs.add_destinations.Statement.{statement}
 use Rattle.pick_rules.proofs.add_destinations.Tie as tie
+use Rattle.pick_rules.proofs.add_destinations.Reads as reads
+use Rattle.pick_rules.proofs.add_destinations.Lts as lts
+use Rattle.pick_rules.proofs.add.Reads as add-reads
+use Rattle.pick_rules.proofs.add_edges.Reads as add-edges-reads
+use Rattle.pick_rules.proofs.add_targets.Reads as add-targets-reads
+use Rattle.pick_rules.proofs.barred.Reads as barred-reads
+use Rattle.choice_masks.proofs.fill_masks.Reads as fill-masks-reads
 
+-- src/lib.rt:469:16
 slice-aggregate-fill-masks : tie.Need-slice-aggregate-fill-masks
 slice-aggregate-fill-masks c = search needs
 
-fill-masks-requires : tie.Need-fill-masks-requires
-fill-masks-requires c κs = let p = c .before .before .before .before .before .before .before .before .pre in (blank (limits .mostEdges), p .4, p .3)
-
+-- src/lib.rt:469:30
 slice-aggregate-fill-masks-2 : tie.Need-slice-aggregate-fill-masks-2
 slice-aggregate-fill-masks-2 c = search needs
 
-fill-masks-requires-2 : tie.Need-fill-masks-requires-2
-fill-masks-requires-2 c κs = let p = c .before .before .before .before .before .before .before .before .before .before .before .pre in (blank (limits .mostNodes), p .5, p .3)
+-- src/lib.rt:469:5
+fill-masks-requires : tie.Need-fill-masks-requires
+fill-masks-requires c κs = let e = c .before .before .before .before .before .before .before .before .before .pre .3 in (blank (limits .mostEdges), omega (arith, e .few, e .edges-full), e .few)
 
+-- src/lib.rt:470:16
 slice-aggregate-fill-masks-3 : tie.Need-slice-aggregate-fill-masks-3
 slice-aggregate-fill-masks-3 c = search needs
 
+-- src/lib.rt:470:32
+slice-aggregate-fill-masks-4 : tie.Need-slice-aggregate-fill-masks-4
+slice-aggregate-fill-masks-4 c = search needs
+
+-- src/lib.rt:470:5
+fill-masks-requires-2 : tie.Need-fill-masks-requires-2
+fill-masks-requires-2 c κs = let e = c .before .before .before .before .before .before .before .before .before .before .before .before .before .pre .3 in (blank (limits .mostNodes), omega (arith, e .few, e .targets-full), e .few)
+
+-- src/lib.rt:471:16
+slice-aggregate-fill-masks-5 : tie.Need-slice-aggregate-fill-masks-5
+slice-aggregate-fill-masks-5 c = search needs
+
+-- src/lib.rt:471:30
+slice-aggregate-fill-masks-6 : tie.Need-slice-aggregate-fill-masks-6
+slice-aggregate-fill-masks-6 c = search needs
+
+-- src/lib.rt:471:5
 fill-masks-requires-3 : tie.Need-fill-masks-requires-3
-fill-masks-requires-3 c κs = let p = c .before .before .before .before .before .before .before .before .before .before .before .before .before .before .pre in (blank (limits .mostNodes), p .6, p .3)
+fill-masks-requires-3 c κs = let e = c .before .before .before .before .before .before .before .before .before .before .before .before .before .before .before .before .before .pre .3 in (blank (limits .mostNodes), omega (arith, e .few, e .homes-full), e .few)
 
-slice-aggregate-add-masked : tie.Need-slice-aggregate-add-masked
-slice-aggregate-add-masked c = search needs
+-- src/lib.rt:477:9
+slice-aggregate-add-edges : tie.Need-slice-aggregate-add-edges
+slice-aggregate-add-edges c = search needs
 
-slice-aggregate-add-masked-2 : tie.Need-slice-aggregate-add-masked-2
-slice-aggregate-add-masked-2 c = search needs
+-- src/lib.rt:478:9
+slice-aggregate-add-edges-2 : tie.Need-slice-aggregate-add-edges-2
+slice-aggregate-add-edges-2 c = search needs
 
-slice-aggregate-add-masked-3 : tie.Need-slice-aggregate-add-masked-3
-slice-aggregate-add-masked-3 c = search needs
+-- src/lib.rt:479:9
+slice-aggregate-add-edges-3 : tie.Need-slice-aggregate-add-edges-3
+slice-aggregate-add-edges-3 c = search needs
 
-add-masked-requires : tie.Need-add-masked-requires
-add-masked-requires c κs =
-    let p = c .before .before .before .before .before .before .before .before .before .before .before .before .before .before .before .before .before .before .before .before .pre in (
-      p .0,
+-- src/lib.rt:480:9
+slice-aggregate-add-edges-4 : tie.Need-slice-aggregate-add-edges-4
+slice-aggregate-add-edges-4 c = search needs
+
+-- src/lib.rt:472:9
+add-edges-requires : tie.Need-add-edges-requires
+add-edges-requires c κs =
+    let p = c .before .before .before .before .before .before .before .before .before .before .before .before .before .before .before .before .before .before .before .before .before .before .before .before .pre in
+    let e = p .3 in (
+      omega (arith, p .0, e .few),
       p .1,
       p .2,
-      p .3,
-      p .4,
-      p .5,
-      omega (arith, most-edges _ (p .2), c .before .before .before .before .before .before .before .before .before .before .before .fill-masks .kept),
-      omega (arith, most-nodes _ (p .2), c .before .before .before .before .before .before .before .before .fill-masks2 .kept),
-      omega (arith, most-nodes _ (p .2), c .before .before .before .before .before .fill-masks3 .kept),
-      p .7,
-      p .8,
+      omega (arith, e .few, e .edges-full),
+      e .few,
+      omega (arith, most-edges _ (p .2), c .before .before .before .before .before .before .before .before .before .before .before .before .before .before .fill-masks .kept),
+      omega (arith, most-nodes _ (p .2), c .before .before .before .before .before .before .before .before .before .before .fill-masks2 .kept),
+      omega (arith, most-nodes _ (p .2), c .before .before .before .before .before .before .fill-masks3 .kept),
     )
 
-same-length : tie.Need-same-length
-same-length c = c .before .before .add-masked .kept .0
+-- src/lib.rt:488:9
+slice-aggregate-add-targets : tie.Need-slice-aggregate-add-targets
+slice-aggregate-add-targets c = sym (c .before .before .before .before .before .before .before .before .before .before .before .before .before .before .before .before .before .before .before .before .before .before .before .before .before .before .before .before .before .pre .3 .targets-full)
 
+-- src/lib.rt:489:9
+slice-aggregate-add-targets-2 : tie.Need-slice-aggregate-add-targets-2
+slice-aggregate-add-targets-2 c = search needs
+
+-- src/lib.rt:490:9
+slice-aggregate-add-targets-3 : tie.Need-slice-aggregate-add-targets-3
+slice-aggregate-add-targets-3 c = search needs
+
+-- src/lib.rt:491:9
+slice-aggregate-add-targets-4 : tie.Need-slice-aggregate-add-targets-4
+slice-aggregate-add-targets-4 c = sym (c .before .before .before .before .before .before .before .before .before .before .before .before .before .before .before .before .before .before .before .before .before .before .before .before .before .before .before .before .before .before .before .before .pre .4 .kept-long)
+
+-- src/lib.rt:483:9
+add-targets-requires : tie.Need-add-targets-requires
+add-targets-requires c κs =
+    let p = c .before .before .before .before .before .before .before .before .before .before .before .before .before .before .before .before .before .before .before .before .before .before .before .before .before .before .before .before .before .before .before .before .pre in
+    let e = p .3 in
+    let f = c .before .before .before .before .before .before .before .add-edges in (
+      omega (arith, p .0, e .few, f .ensures .0),
+      le-trans (p .1) (le-of-eq (sym (f .kept .0))),
+      p .2,
+      omega (arith, e .few, e .targets-full),
+      e .few,
+      omega (arith, most-nodes _ (p .2), c .before .before .before .before .before .before .before .before .before .before .before .before .before .before .before .before .before .before .fill-masks2 .kept),
+      omega (arith, most-nodes _ (p .2), c .before .before .before .before .before .before .before .before .before .before .before .before .before .before .fill-masks3 .kept),
+      omega (arith, most-nodes _ (p .2), p .4 .kept-long),
+    )
+
+-- src/lib.rt:494:35
+slice-aggregate-barred : tie.Need-slice-aggregate-barred
+slice-aggregate-barred c = omega (arith, c .before .before .before .before .before .before .before .before .before .before .before .before .before .before .before .before .before .before .before .before .before .before .before .before .before .before .fill-masks .kept)
+
+-- src/lib.rt:494:45
+slice-aggregate-barred-2 : tie.Need-slice-aggregate-barred-2
+slice-aggregate-barred-2 c = search needs
+
+-- src/lib.rt:494:57
+slice-aggregate-barred-3 : tie.Need-slice-aggregate-barred-3
+slice-aggregate-barred-3 c = search needs
+
+-- src/lib.rt:494:67
+slice-aggregate-barred-4 : tie.Need-slice-aggregate-barred-4
+slice-aggregate-barred-4 c = sym (c .before .before .before .before .before .before .before .before .before .before .before .before .before .before .before .before .before .before .before .before .before .before .before .before .before .before .before .before .before .before .before .before .before .before .before .before .before .before .before .pre .4 .runs-long)
+
+-- src/lib.rt:494:9
+barred-requires : tie.Need-barred-requires
+barred-requires c κs =
+    let p = c .before .before .before .before .before .before .before .before .before .before .before .before .before .before .before .before .before .before .before .before .before .before .before .before .before .before .before .before .before .before .before .before .before .before .before .before .before .before .before .pre in (
+      p .2,
+      omega (arith, most-edges _ (p .2), c .before .before .before .before .before .before .before .before .before .before .before .before .before .before .before .before .before .before .before .before .before .before .before .before .before .before .before .before .before .fill-masks .kept),
+      omega (arith, most-nodes _ (p .2), c .before .before .before .before .before .before .before .before .before .before .before .before .before .before .before .before .before .before .before .before .before .before .before .before .before .fill-masks2 .kept),
+      omega (arith, most-nodes _ (p .2), c .before .before .before .before .before .before .before .before .before .before .before .before .before .before .before .before .before .before .before .before .before .fill-masks3 .kept),
+      omega (arith, most-nodes _ (p .2), p .4 .runs-long),
+    )
+
+-- src/lib.rt:495:5
+add-requires : tie.Need-add-requires
+add-requires c κs =
+    let p = c .before .before .before .before .before .before .before .before .before .before .before .before .before .before .before .before .before .before .before .before .before .before .before .before .before .before .before .before .before .before .before .before .before .before .before .before .before .before .before .before .before .pre in
+    let e = c .before .before .before .before .before .before .before .before .before .before .before .before .before .before .before .before .add-edges in
+    let f = c .before .before .before .before .before .before .before .before .add-targets in
+    (omega (arith, p .0, p .3 .few, e .ensures .0, f .ensures .0), le-trans (p .1) (le-of-eq (sym (f .kept .0 ∙ e .kept .0))))
+
+-- src/lib.rt:449:1
+same-length : tie.Need-same-length
+same-length c = c .before .before .add .kept .0 ∙ c .before .before .before .before .before .before .before .before .before .before .before .add-targets .kept .0 ∙ c .before .before .before .before .before .before .before .before .before .before .before .before .before .before .before .before .before .before .before .add-edges .kept .0
+
+-- src/lib.rt:449:1
 returns : tie.Need-returns
 returns c =
-    let a = c .before .before .before .before .before .before .before .before .before .before .before .before .before .before .before .before .before .before .before .before .before .before .before .args in
-    let p = c .before .before .before .before .before .before .before .before .before .before .before .before .before .before .before .before .before .before .before .before .before .before .before .pre in
-    let e = c .before .before .before .before .before .before .before .before .before .before .before .before .before .before .fill-masks in
-    let f = c .before .before .before .before .before .before .before .before .before .before .before .fill-masks2 in
-    let g = c .before .before .before .before .before .before .before .before .fill-masks3 in
-    c .before .before .add-masked .ensures (a .home .now)
-    (masks-of (e .ensures) (f .ensures) (g .ensures) (omega (arith, most-edges _ (p .2), e .kept)) (omega (arith, most-nodes _ (p .2), f .kept)) (omega (arith, most-nodes _ (p .2), g .kept)))
+    let s = c .before .before .before .before .before .before .before .before .before .before .before .before .before .before .before .before .before .before .before .before .before .before .before .before .before .before .before .before .before .before .before .before .before .before .before .before .before .before .before .before .before .before .before .before in
+    let x = s .args .ends in
+    let p = s .pre in
+    let e = c .before .before .before .before .before .before .before .before .before .before .before .before .before .before .before .before .before .before .before .before .before .before .before .before .before .before .before .before .before .before .before .before .before .before .fill-masks in
+    let f = c .before .before .before .before .before .before .before .before .before .before .before .before .before .before .before .before .before .before .before .before .before .before .before .before .before .before .before .before .before .before .fill-masks2 in
+    let g = c .before .before .before .before .before .before .before .before .before .before .before .before .before .before .before .before .before .before .before .before .before .before .before .before .before .before .fill-masks3 in
+    let m =
+    masks-of {table = s .args .table} (e .ensures) (f .ensures) (g .ensures) (omega (arith, most-edges _ (p .2), e .kept)) (omega (arith, most-nodes _ (p .2), f .kept)) (omega (arith, most-nodes _ (p .2), g .kept)) in
+    destinations-added (s .args .t .now) (x .edge) (x .target) (x .home) (s .args .held .runs) (s .args .held .kept) (p .3 .few)
+    (c .before .before .before .before .before .before .before .before .before .before .before .before .before .before .before .before .before .before .before .add-edges .ensures .1 (x .target) (x .home) m) (c .before .before .before .before .before .before .before .before .before .before .before .add-targets .ensures .1 _ (x .edge) (x .home) (s .args .held .runs) m)
+    (c .before .before .before .before .barred .ensures (x .edge) (x .target) (x .home) (s .args .held .kept) (x .count) m) (c .before .before .add .ensures (x .count) (omega (arith, p .3 .few)))
 
 pub add-destinations-spec : {M : Type 1} → statement M
 add-destinations-spec =
     tie.close
     (tie.spec
     slice-aggregate-fill-masks
-    fill-masks-requires
     slice-aggregate-fill-masks-2
-    fill-masks-requires-2
+    fill-masks-requires
     slice-aggregate-fill-masks-3
+    slice-aggregate-fill-masks-4
+    fill-masks-requires-2
+    slice-aggregate-fill-masks-5
+    slice-aggregate-fill-masks-6
     fill-masks-requires-3
-    slice-aggregate-add-masked
-    slice-aggregate-add-masked-2
-    slice-aggregate-add-masked-3
-    add-masked-requires
+    slice-aggregate-add-edges
+    slice-aggregate-add-edges-2
+    slice-aggregate-add-edges-3
+    slice-aggregate-add-edges-4
+    add-edges-requires
+    slice-aggregate-add-targets
+    slice-aggregate-add-targets-2
+    slice-aggregate-add-targets-3
+    slice-aggregate-add-targets-4
+    add-targets-requires
+    slice-aggregate-barred
+    slice-aggregate-barred-2
+    slice-aggregate-barred-3
+    slice-aggregate-barred-4
+    barred-requires
+    add-requires
     same-length
     returns)

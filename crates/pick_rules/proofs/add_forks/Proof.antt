@@ -4,57 +4,86 @@ use Prim.Native.Nat.{_≤_}
 use native.Mathlib.Nat.{le-trans, le-of-eq}
 use native.Mathlib.Omega.{arith}
 use lib.ListN.{length}
-use borrow.Author.Needs.{needs}
 use Rattle.pick_rules.specs.Rules.{AddedFrom, forkKept}
 use Rattle.pick_rules.proofs.Rows.{from-none, from-more, from-all}
-use Rattle.pick_rules.proofs.Rows.{from-none, from-more, from-all}
+use borrow.Author.Needs.{needs}
 use Rattle.pick_rules.proofs.add_forks.Statement.{statement}
 use Rattle.pick_rules.proofs.add_forks.Tie as tie
+use Rattle.pick_rules.proofs.add_forks.Reads as reads
+use Rattle.pick_rules.proofs.add_forks.Lts as lts
+use Rattle.pick_rules.proofs.add.Reads as add-reads
+use Rattle.pick_rules.proofs.fork_rule.Reads as fork-rule-reads
 
 abbrev Inv-loop : tie.InvT-loop
-Inv-loop net₀ count t table node parents makers ends rows n r₀ z₀ net r z = (z ≤ rows) × (length net ≡ length net₀) × AddedFrom net₀ count net r n (forkKept t node parents makers ends rows n) z rows
+Inv-loop net₀ count t table ends node parents makers rows r₀ z₀ net r z = (z ≤ rows) × (length net ≡ length net₀) × AddedFrom net₀ count net r (ends .count) (forkKept t node parents makers rows (ends .count)) z rows
 
 abbrev μ-loop : tie.MeasureT-loop
-μ-loop net₀ count t table node parents makers ends rows n r₀ z₀ net r z = z
+μ-loop net₀ count t table ends node parents makers rows r₀ z₀ net r z = z
 
+-- src/lib.rt:199:5
 loop-holds : tie.Need-loop-holds Inv-loop μ-loop
-loop-holds c = let a = c .before .before .before .before .before .before .args in (search needs, refl, from-none (forkKept (a .t .now) (a .node .now) (a .parents .now) (a .makers .now) (a .ends .now) (a .rows) (a .n)) (a .rows))
+loop-holds c = (search needs, refl, from-none _ _)
 
+-- src/lib.rt:200:9
 sub-z : tie.Need-sub-z Inv-loop μ-loop
 sub-z c = search needs
 
+-- src/lib.rt:201:39
+slice-aggregate-fork-rule : tie.Need-slice-aggregate-fork-rule Inv-loop μ-loop
+slice-aggregate-fork-rule c = search needs
+
+-- src/lib.rt:201:46
+slice-aggregate-fork-rule-2 : tie.Need-slice-aggregate-fork-rule-2 Inv-loop μ-loop
+slice-aggregate-fork-rule-2 c = search needs
+
+-- src/lib.rt:201:56
+slice-aggregate-fork-rule-3 : tie.Need-slice-aggregate-fork-rule-3 Inv-loop μ-loop
+slice-aggregate-fork-rule-3 c = search needs
+
+-- src/lib.rt:201:13
 fork-rule-requires : tie.Need-fork-rule-requires Inv-loop μ-loop
 fork-rule-requires c κs =
-    let p = c .before .before .before .before .before .before .before .before .pre in
-    (p .2, p .3, p .4, p .5, p .6, omega (arith, c .before .loop .inv .0, c .loop-test .taken), p .7)
+    let p = c .before .before .before .before .before .before .before .before .before .before .pre in
+    let o = p .3 in
+    let e = p .4 in (
+      p .2,
+      omega (arith, o .few, o .nodes-full),
+      omega (arith, o .few, o .parents-full),
+      omega (arith, e .few, e .makers-full),
+      o .few,
+      omega (arith, c .before .before .before .before .loop .inv .0, c .before .before .before .loop-test .taken),
+      e .few,
+    )
 
+-- src/lib.rt:202:9
 add-requires : tie.Need-add-requires Inv-loop μ-loop
 add-requires c κs =
-    let p = c .before .before .before .before .before .before .before .before .before .before .pre in
-    let l = c .before .before .before .loop in
-    (omega (arith, p .0, l .inv .2 .few, l .inv .0, c .before .before .loop-test .taken), le-trans (p .1) (le-of-eq (sym (l .inv .1))))
+    let p = c .before .before .before .before .before .before .before .before .before .before .before .before .pre in
+    let l = c .before .before .before .before .before .before .loop in
+    (omega (arith, p .0, l .inv .2 .few, l .inv .0, c .before .before .before .before .before .loop-test .taken), le-trans (p .1) (le-of-eq (sym (l .inv .1))))
 
+-- src/lib.rt:199:5
 loop-less : tie.Need-loop-less Inv-loop μ-loop
 loop-less c = search needs
 
+-- src/lib.rt:199:5
 loop-again : tie.Need-loop-again Inv-loop μ-loop
 loop-again c =
-    let l = c .before .before .before .before .before .before .loop in
-    let a = c .before .before .before .before .before .before .before .before .before .before .before .before .before .args in (
+    let l = c .before .before .before .before .before .before .before .before .before .loop in
+    let s = c .before .before .before .before .before .before .before .before .before .before .before .before .before .before .before in (
       search needs,
       omega (arith, c .before .before .add .kept, l .inv .1),
-      from-more (forkKept (a .t .now) (a .node .now) (a .parents .now) (a .makers .now) (a .ends .now) (a .rows) (a .n)) (l .z) (a .rows) (c .before .before .before .before .before .loop-test .taken) (l .inv .0) (l .inv .2)
-          (c .before .before .before .before .fork-rule .ensures) (c .before .before .add .ensures (a .n) (omega (arith, c .before .before .before .before .before .before .before .before .before .before .before .before .before .pre .7))),
+      from-more _ (l .z) _ (c .before .before .before .before .before .before .before .before .loop-test .taken) (l .inv .0) (l .inv .2)
+          (c .before .before .before .before .fork-rule .ensures) (c .before .before .add .ensures (s .args .ends .count) (omega (arith, s .pre .4 .few))),
     )
 
+-- src/lib.rt:182:1
 same-length : tie.Need-same-length Inv-loop μ-loop
 same-length c = c .before .loop .inv .1
 
+-- src/lib.rt:182:1
 returns : tie.Need-returns Inv-loop μ-loop
-returns c =
-    let l = c .before .loop in
-    let a = c .before .before .before .before .before .before .before .before .args in
-    from-all (forkKept (a .t .now) (a .node .now) (a .parents .now) (a .makers .now) (a .ends .now) (a .rows) (a .n)) (let e : l .z ≡ 0 = omega arith in e) (l .inv .2)
+returns c = let l = c .before .loop in from-all _ (let e : l .z ≡ 0 = omega arith in e) (l .inv .2)
 
 pub add-forks-spec : {M : Type 1} → statement M
 add-forks-spec =
@@ -64,6 +93,9 @@ add-forks-spec =
     μ-loop
     loop-holds
     sub-z
+    slice-aggregate-fork-rule
+    slice-aggregate-fork-rule-2
+    slice-aggregate-fork-rule-3
     fork-rule-requires
     add-requires
     loop-less

@@ -6,7 +6,8 @@ use native.Mathlib.Nat.{le-trans, le-of-eq}
 use native.Mathlib.Omega.{arith}
 use lib.ListN.{length}
 use borrow.Author.Needs.{needs}
-use Rattle.pick_rules.specs.Rules.{AddedUpto, Masks, targetRow}
+use Rattle.choice_masks.specs.Masks.{Masks}
+use Rattle.pick_rules.specs.Rules.{AddedUpto, targetRow}
 use Rattle.pick_rules.proofs.Rows.{upto-all, upto-none, upto-more}
 use Rattle.pick_rules.proofs.Rows.{upto-all, upto-none, upto-more}
 use Rattle.pick_rules.proofs.add_targets.Statement.{statement}

@@ -4,7 +4,8 @@ use native.Mathlib.Omega.{arith}
 use borrow.Author.Tests.{eq-eqb, ne-eqb}
 use borrow.Author.Needs.{needs}
 use Rattle.table.proofs.Reading.{read-spans, target-node}
-use Rattle.pick_rules.proofs.Masks.{marks-empty, at-edge, at-both, bars-none}
+use Rattle.choice_masks.proofs.Masking.{at-edge, at-both}
+use Rattle.pick_rules.proofs.Masks.{marks-empty, bars-none}
 use Rattle.pick_rules.proofs.Kept.{edge-bars, edge-manned, edge-elsewhere}
 use Rattle.pick_rules.proofs.barred_at_edge.Statement.{statement}
 use Rattle.pick_rules.proofs.barred_at_edge.Tie as tie

@@ -4,7 +4,8 @@ use native.Mathlib.Omega.{arith}
 use borrow.Author.Tests.{eq-eqb, ne-eqb}
 use borrow.Author.Needs.{needs}
 use Rattle.table.proofs.Reading.{read-spans}
-use Rattle.pick_rules.proofs.Masks.{marks-empty, at-target, at-both, bars-none}
+use Rattle.choice_masks.proofs.Masking.{at-target, at-both}
+use Rattle.pick_rules.proofs.Masks.{marks-empty, bars-none}
 use Rattle.pick_rules.proofs.Kept.{idle-bars, busy-bars, pin-bars, pin-manned, pin-idle, node-elsewhere}
 use Rattle.pick_rules.proofs.Allowed.{owner-inside}
 use Rattle.pick_rules.proofs.barred_at_node.Statement.{statement}

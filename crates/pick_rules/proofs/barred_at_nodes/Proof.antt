@@ -5,7 +5,8 @@ use Prim.Native.Nat.{ℕ, _≤_, _-_}
 use native.Mathlib.Omega.{arith}
 use borrow.Author.Needs.{needs}
 use Rattle.paper.specs.Lists.{below}
-use Rattle.pick_rules.specs.Rules.{onEach, Masks, Bars, nodeBar}
+use Rattle.choice_masks.specs.Masks.{Masks}
+use Rattle.pick_rules.specs.Rules.{onEach, Bars, nodeBar}
 use Rattle.pick_rules.proofs.Masks.{bars-none, bars-more, bars-all}
 use Rattle.pick_rules.proofs.barred_at_nodes.Statement.{statement}
 use Rattle.pick_rules.proofs.barred_at_nodes.Tie as tie

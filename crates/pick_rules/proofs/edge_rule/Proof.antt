@@ -8,7 +8,8 @@ use Rattle.paper.specs.Lists.{at}
 use Rattle.paper.specs.Table.{edges}
 use Rattle.table.proofs.Reading.{read-spans, target-node}
 use Rattle.pick_rules.specs.Rules.{edgeKept}
-use Rattle.pick_rules.proofs.Masks.{leads-word, at-edge, at-both}
+use Rattle.choice_masks.proofs.Masking.{at-edge, at-both}
+use Rattle.pick_rules.proofs.Masks.{leads-word}
 use Rattle.pick_rules.proofs.Kept.{row-first, row-past, row-later, edge-says, edge-other}
 use Rattle.pick_rules.proofs.edge_rule.Statement.{statement}
 use Rattle.pick_rules.proofs.edge_rule.Tie as tie

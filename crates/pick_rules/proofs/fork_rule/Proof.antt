@@ -21,26 +21,26 @@ no-rule-requires c κs = search needs
 
 returns : tie.Need-returns
 returns c =
-    let a = c .before .before .before .before .before .before .before .before .before .before .args in
-    let s = read-spans _ (c .before .before .before .before .before .before .before .before .before .before .pre .0) in
+    let a = c .before .before .before .before .before .before .before .before .before .args in
+    let s = read-spans _ (c .before .before .before .before .before .before .before .before .before .pre .0) in
     let l : nodes (a .t .now) ≤ at (a .node .now) (a .z) = omega (arith, c .before .before .before .wide .ensures .0, s .nodes-read, c .before .if1 .taken) in
-    λ x. c .no-rule .ensures (a .n) x ∙ sym (fork-past (a .t .now) (a .node .now) (a .parents .now) (a .makers .now) (a .ends .now) (a .rows) (a .n) (a .z) x l)
+    λ x. c .no-rule .ensures (a .n) x ∙ sym (fork-past (a .t .now) (a .node .now) (a .parents .now) (a .makers .now) (a .rows) (a .n) (a .z) x l)
 
 kind-requires : tie.Need-kind-requires
-kind-requires c κs = (read-spans _ (c .before .before .before .before .before .before .before .before .before .pre .0), search needs)
+kind-requires c κs = (read-spans _ (c .before .before .before .before .before .before .before .before .pre .0), search needs)
 
 no-rule-requires-2 : tie.Need-no-rule-requires-2
 no-rule-requires-2 c κs = search needs
 
 returns-2 : tie.Need-returns-2
 returns-2 c =
-    let a = c .before .before .before .before .before .before .before .before .before .before .before .before .args in
-    let s = read-spans _ (c .before .before .before .before .before .before .before .before .before .before .before .before .pre .0) in
+    let a = c .before .before .before .before .before .before .before .before .before .before .before .args in
+    let s = read-spans _ (c .before .before .before .before .before .before .before .before .before .before .before .pre .0) in
     let e = c .before .before .before .before .before .wide .ensures .0 in
     let l : at (a .node .now) (a .z) < nodes (a .t .now) = omega (arith, e, s .nodes-read, c .before .before .before .if1 .left) in
     λ x.
     c .no-rule2 .ensures (a .n) x
-    ∙ sym (fork-other (a .t .now) (a .node .now) (a .parents .now) (a .makers .now) (a .ends .now) (a .rows) (a .n) (a .z) x l
+    ∙ sym (fork-other (a .t .now) (a .node .now) (a .parents .now) (a .makers .now) (a .rows) (a .n) (a .z) x l
     (λ f. c .before .if2 .taken (c .before .before .kind .ensures .0 ∙ ap (kind (a .t .now)) e ∙ f)))
 
 family-requires : tie.Need-family-requires
@@ -57,13 +57,13 @@ made-requires-2 c κs = search needs
 
 returns-3 : tie.Need-returns-3
 returns-3 c =
-    let a = c .before .before .before .before .before .before .before .before .before .before .before .before .before .before .before .args in
-    let p = c .before .before .before .before .before .before .before .before .before .before .before .before .before .before .before .pre in
+    let a = c .before .before .before .before .before .before .before .before .before .before .before .before .before .before .args in
+    let p = c .before .before .before .before .before .before .before .before .before .before .before .before .before .before .pre in
     let s = read-spans _ (p .0) in
     let e = c .before .before .before .before .before .before .before .before .wide .ensures .0 in
     let l : at (a .node .now) (a .z) < nodes (a .t .now) = omega (arith, e, s .nodes-read, c .before .before .before .before .before .before .if1 .left) in
     λ x.
-    fork-says (a .t .now) (a .node .now) (a .parents .now) (a .makers .now) (a .ends .now) (a .rows) (a .n) (a .z) x _ _ _ l
+    fork-says (a .t .now) (a .node .now) (a .parents .now) (a .makers .now) (a .rows) (a .n) (a .z) x _ _ _ l
     (sym (ap (kind (a .t .now)) e) ∙ sym (c .before .before .before .before .before .kind .ensures .0) ∙ c .before .before .before .before .if2 .left) (p .6)
     (c .before .before .before .family .ensures) (c .before .before .made .ensures) (rw (sym (c .before .bit-of .ensures)) (c .made2 .ensures))
 

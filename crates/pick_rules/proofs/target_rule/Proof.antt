@@ -9,7 +9,8 @@ use Rattle.paper.specs.Lists.{at}
 use Rattle.paper.specs.Table.{nodes, isBuffer, isOutgoing}
 use Rattle.table.proofs.Reading.{read-spans}
 use Rattle.pick_rules.specs.Rules.{seatsKept}
-use Rattle.pick_rules.proofs.Masks.{leads-word, at-target, at-both}
+use Rattle.choice_masks.proofs.Masking.{at-target, at-both}
+use Rattle.pick_rules.proofs.Masks.{leads-word}
 use Rattle.pick_rules.proofs.Kept.{row-first, row-past, row-later, pin-says, store-says, no-store}
 use Rattle.pick_rules.proofs.Allowed.{owner-inside}
 use Rattle.pick_rules.proofs.target_rule.Statement.{statement}

@@ -1,6 +1,6 @@
 -- `pick_wanted::owned` meets its contract: the marks of two columns together. Assumes nothing.
 use borrow.Author.Needs.{needs}
-use Rattle.pick_wanted.proofs.Masks.{marks-or}
+use Rattle.choice_masks.proofs.Masking.{marks-or}
 use Rattle.pick_wanted.proofs.owned.Statement.{statement}
 use Rattle.pick_wanted.proofs.owned.Tie as tie
 

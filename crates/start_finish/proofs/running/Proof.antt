@@ -12,31 +12,36 @@ use Rattle.start_finish.proofs.running.Statement.{statement}
 use Rattle.start_finish.proofs.running.Tie as tie
 
 returns : tie.Need-returns
-returns c = let a = c .before .before .before .before .args in
-    λ m n. sym (ap (need 14) (no-node (a .t .now) m (a .a) (omega (arith, c .before .before .before .before .pre .0 .nodes-read, c .if1 .taken))))
+returns c = let b = c .before .before .before in
+    let a = b .args in
+    λ m n. sym (ap (need 14) (no-node (a .t .now) m (a .a) (omega (arith, b .pre .nodes-read, c .if1 .taken))))
 
 kind-requires : tie.Need-kind-requires
 kind-requires c κs = search needs
 
 returns-2 : tie.Need-returns-2
-returns-2 c = let a = c .before .before .before .before .before .before .args in
+returns-2 c = let a = c .before .before .before .before .before .args in
     λ m n. sym (ap (need 14) (no-action (a .t .now) m (a .a) (λ e. c .if2 .taken (c .before .kind .ensures .0 ∙ e))))
 
-shared-slice-read-if3 : tie.Need-shared-slice-read-if3
-shared-slice-read-if3 c = search needs
+element-copy-out-if3 : tie.Need-element-copy-out-if3
+element-copy-out-if3 c = search needs
 
 returns-3 : tie.Need-returns-3
-returns-3 c = let a = c .before .before .before .before .before .before .before .before .args in
-    let l : a .a < nodes (a .t .now) = omega (arith, c .before .before .before .before .before .before .before .before .pre .0 .nodes-read, c .before .before .before .before .if1 .left) in
+returns-3 c = let b = c .before .before .before .before .before .before .before in
+    let a = b .args in
+    let l : a .a < nodes (a .t .now) = omega (arith, b .pre .nodes-read, c .before .before .before .before .if1 .left) in
     let k = sym (c .before .before .before .kind .ensures .0) ∙ c .before .before .if2 .left in
-    λ m n. sym (ap (need 14) (runs-as (a .t .now) m (a .a) (at (a .runs .now) (a .a)) l k (n (a .a) l (ap isAction k)) ∙ ne-eqb (at (a .runs .now) (a .a)) 1 (c .if3 .taken)))
+    λ m n. sym (ap (need 14) (runs-as (a .t .now) m (a .a) (at (a .t3 .runs) (a .a)) l k (n (a .a) l (ap isAction k))
+    ∙ ne-eqb (at (a .t3 .runs) (a .a)) 1 (c .if3 .taken)))
 
 returns-4 : tie.Need-returns-4
-returns-4 c = let a = c .before .before .before .before .before .before .before .before .args in
-    let l : a .a < nodes (a .t .now) = omega (arith, c .before .before .before .before .before .before .before .before .pre .0 .nodes-read, c .before .before .before .before .if1 .left) in
+returns-4 c = let b = c .before .before .before .before .before .before .before in
+    let a = b .args in
+    let l : a .a < nodes (a .t .now) = omega (arith, b .pre .nodes-read, c .before .before .before .before .if1 .left) in
     let k = sym (c .before .before .before .kind .ensures .0) ∙ c .before .before .if2 .left in
-    λ m n. sym (ap (need 14) (runs-as (a .t .now) m (a .a) (at (a .runs .now) (a .a)) l k (n (a .a) l (ap isAction k)) ∙ eq-eqb (at (a .runs .now) (a .a)) 1 (c .if3 .left)))
+    λ m n. sym (ap (need 14) (runs-as (a .t .now) m (a .a) (at (a .t3 .runs) (a .a)) l k (n (a .a) l (ap isAction k))
+    ∙ eq-eqb (at (a .t3 .runs) (a .a)) 1 (c .if3 .left)))
 
 pub running-spec : {M : Type 1} → statement M
 running-spec =
-    tie.close (tie.spec returns kind-requires returns-2 shared-slice-read-if3 returns-3 returns-4)
+    tie.close (tie.spec returns kind-requires returns-2 element-copy-out-if3 returns-3 returns-4)

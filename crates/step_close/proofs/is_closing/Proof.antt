@@ -28,7 +28,8 @@ is-last-requires c κs = let p = c .before .before .before .before .pre in (p .0
 returns : tie.Need-returns Inv-loop μ-loop
 unfolding closes
 returns c = let a = c .before .before .before .before .before .before .args in
-    sym (in-any (λ k. has (a .c) k && isActivityFinal (kindOf (a .t .now) (at (a .target .now) k))) (below-in (a .n) (c .before .before .loop-test .taken)) (sym (c .before .is-last .ensures) ∙ c .if1 .taken))
+    sym (in-any (λ k. has (a .c) k && isActivityFinal (kindOf (a .t .now) (at (a .target .now) k))) (below-in (a .n) (c .before .before .loop-test .taken))
+    (sym (c .before .is-last .ensures) ∙ c .if1 .taken))
 
 add-k : tie.Need-add-k Inv-loop μ-loop
 add-k c = search needs
@@ -42,7 +43,8 @@ loop-again c = (omega arith, below-more _ _ (c .before .before .before .loop .in
 returns-2 : tie.Need-returns-2 Inv-loop μ-loop
 unfolding closes
 returns-2 c = let a = c .before .before .before .before .args in
-    sym (any-below-none (λ k. has (a .c) k && isActivityFinal (kindOf (a .t .now) (at (a .target .now) k))) (a .n) (λ k l. c .before .loop .inv .1 k (omega arith)))
+    sym (any-below-none (λ k. has (a .c) k && isActivityFinal (kindOf (a .t .now) (at (a .target .now) k))) (a .n)
+    (λ k l. c .before .loop .inv .1 k (omega arith)))
 
 pub is-closing-spec : {M : Type 1} → statement M
 is-closing-spec =

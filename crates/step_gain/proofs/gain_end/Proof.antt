@@ -4,16 +4,27 @@ use mathlib.Core.Bool.{true}
 use native.Mathlib.Omega.{arith}
 use borrow.Author.Tests.{not-true, not-false}
 use lib.ListN.{length}
-use Rattle.step_gain.specs.Gains.{brings, brought}
+use Rattle.step_gain.specs.Gains.{goesTo, brought}
 use borrow.Author.Needs.{needs}
 use Rattle.step_gain.proofs.gain_end.Statement.{statement}
 use Rattle.step_gain.proofs.gain_end.Tie as tie
 
-brings-value-requires : tie.Need-brings-value-requires
-brings-value-requires c κs = search needs
+-- ---- places, each from a later one
+abbrev entry : tie.After-goes-to → tie.Start
+entry c = c .before .before .before .before .before
+
+abbrev asked : tie.After-write32-arg → tie.After-goes-to
+asked c = c .before .before
+
+-- the end goes to the node
+goes : (c : tie.After-write32-arg) → let a = entry (asked c) .args in goesTo (a .target .now) (a .w) (a .i) (a .k) ≡ true
+goes c = sym (asked c .goes-to .ensures) ∙ not-false _ (c .before .if1 .left)
+
+goes-to-requires : tie.Need-goes-to-requires
+goes-to-requires c κs = search needs
 
 returns : tie.Need-returns
-returns c = let h = sym (c .before .brings-value .ensures) ∙ not-true _ (c .if1 .taken) in (sym (rw h), rw h)
+returns c = let h = sym (c .before .goes-to .ensures) ∙ not-true _ (c .if1 .taken) in (sym (rw h), rw h)
 
 shared-slice-read-wide : tie.Need-shared-slice-read-wide
 shared-slice-read-wide c = search needs
@@ -25,27 +36,26 @@ mul-write32 : tie.Need-mul-write32
 mul-write32 c = search needs
 
 shared-slice-read-write32 : tie.Need-shared-slice-read-write32
-shared-slice-read-write32 c = omega (arith, c .before .wide .ensures .0)
+shared-slice-read-write32 c = search needs
 
 write32-requires : tie.Need-write32-requires
-write32-requires c κs = let a = c .before .before .before .before .before .before .before .before .before .before .before .args in
-    let h : brings (a .target .now) (a .valued .now) (a .value .now) (a .ends .now) (a .c) (a .i) (a .k) ≡ true = sym (c .before .before .before .before .before .brings-value .ensures) ∙ not-false _ (c .before .before .before .before .if1 .left) in
-    let l : length (brought (a .target .now) (a .valued .now) (a .value .now) (a .ends .now) (a .c) (a .i) (a .k)) ≡ 1 = rw h in
-    omega (arith, c .before .before .before .before .before .before .before .before .before .before .before .pre .5)
+write32-requires c κs = let w = c .before .before .before in
+    let a = entry (asked w) .args in
+    let l : length (brought (a .target .now) (a .row .now) (a .value .now) (a .w) (a .i) (a .k)) ≡ 1 = rw (goes w) in
+    omega (arith, entry (asked w) .pre .4)
 
 same-length : tie.Need-same-length
 same-length c = search needs
 
 returns-2 : tie.Need-returns-2
-returns-2 c = let a = c .before .before .before .before .before .before .before .before .before .before .before .before .before .before .args in
-    let h : brings (a .target .now) (a .valued .now) (a .value .now) (a .ends .now) (a .c) (a .i) (a .k) ≡ true = sym (c .before .before .before .before .before .before .before .before .brings-value .ensures) ∙ not-false _ (c .before .before .before .before .before .before .before .if1 .left) in
-    (sym (rw h), c .before .before .write32 .ensures ∙ rw (h, c .before .before .before .before .wide .ensures .0))
+returns-2 c = let w = c .before .before .before .before .before .before in
+    (sym (rw (goes w)), c .before .before .write32 .ensures ∙ rw (goes w, c .before .before .before .before .wide .ensures .0))
 
 pub gain-end-spec : {M : Type 1} → statement M
 gain-end-spec =
     tie.close
     (tie.spec
-    brings-value-requires
+    goes-to-requires
     returns
     shared-slice-read-wide
     wide-requires

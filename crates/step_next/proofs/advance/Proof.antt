@@ -1,140 +1,185 @@
 -- `advance`: spent, gained, and ended if an activity final is reached; what the parts promise comes to the paper's next marking. Assumes nothing.
-use mathlib.Core.Path.{sym, _∙_}
-use native.Mathlib.Nat.{le-trans, le-of-eq}
+use mathlib.Core.Path.{_≡_, sym, _∙_}
+use mathlib.Core.List.{List, []}
+use Prim.Native.Nat.{ℕ, _<_}
+use native.Mathlib.Omega.{arith}
 use borrow.Author.Tests.{not-true, not-false}
-use Rattle.table.proofs.Reading.{read-spans, read-good}
-use Rattle.step_next.proofs.Moving.{stepped, stopped}
+use lib.ListN.{length}
+use Rattle.paper.specs.Choices.{Board, spend, gain}
+use Rattle.table.proofs.Reading.{read-spans, read-good, most-nodes}
+use Rattle.ends_masks.specs.Seating.{Rowed, Stands}
+use Rattle.marking_held.specs.MarkingHeld.{MarkingHeld}
+use Rattle.step_next.proofs.Moving.{next-open, next-closed, open-state, closed-state, spend-held, few-left, gain-held}
 use borrow.Author.Needs.{needs}
 use Rattle.step_next.proofs.advance.Statement.{statement}
 use Rattle.step_next.proofs.advance.Tie as tie
 
+-- ---- the places of the function, each from the next
+abbrev entry : tie.After-all-makers → tie.Start
+entry c = c .before .before .before .before .before .before .before .before .before .before .before
+
+abbrev made-known : tie.After-bringing → tie.After-all-makers
+made-known c = c .before .before .before
+
+abbrev bringing-known : tie.After-spend → tie.After-bringing
+bringing-known c = c .before .before .before
+
+abbrev stocks-spent : tie.After-gain → tie.After-spend
+stocks-spent c = c .before .before .before
+
+abbrev values-gained : tie.After-run → tie.After-gain
+values-gained c = c .before .before .before
+
+-- ---- the way back to the entry
+abbrev from-spent : tie.After-spend → tie.Start
+from-spent c = entry (made-known (bringing-known c))
+
+abbrev from-gained : tie.After-gain → tie.Start
+from-gained c = from-spent (stocks-spent c)
+
+abbrev from-run : tie.After-run → tie.Start
+from-run c = from-gained (values-gained c)
+
+-- ends are entries of the columns of offers
+rowed : (s : tie.Start) (column : List ℕ) → length column ≡ 64 → Rowed (s .args .ends .row) (s .args .ends .count) (length column)
+rowed s column e = record {
+  many = omega (arith, s .pre .2 .rows-full, s .pre .2 .few);
+  each-inside = λ k l. omega (arith, s .pre .3 .rows-inside k l);
+}
+
+-- ---- what is held when all is spent and gained
+module _ (c : tie.After-run) where
+  abbrev start : tie.Start
+  start = from-run c
+
+  abbrev gained : tie.After-gain
+  gained = values-gained c
+
+  abbrev spent : tie.After-spend
+  spent = stocks-spent gained
+
+  abbrev bringing : tie.After-bringing
+  bringing = bringing-known spent
+
+  moved-held : (d : Board) (b : List ℕ)
+      → Stands (start .args .t .now) d (start .args .offers) (start .args .ends) (start .args .held .runs) (start .args .held .kept)
+      → length b < 65536 → MarkingHeld (start .args .t .now) (d .current) b [] (start .args .held)
+      → MarkingHeld (start .args .t .now) (gain d (start .args .c) (spend d (start .args .c) (d .current))) b (gained .gain .last .1 .1 .1 .1 .0) (c .run .result)
+  moved-held d b s short h =
+      let a = start .args in
+      let t = a .t .now in
+      let z = read-spans t (start .pre .0) in
+      let w = made-known bringing .all-makers in
+      let v = bringing .bringing in
+      let m = spend d (a .c) (d .current) in
+      let left = spend-held t d (a .offers) (a .ends) (a .c) s (w .result) (w .ensures) (d .current) (spent .spend .ensures .1 (d .current) b short h) in
+      let came = gained .gain .ensures .1 t m b z
+      (λ i l. few-left t d (a .offers) (a .ends) (a .c) s (read-good t (start .pre .0)) i (omega (arith, z .nodes-read))) left in
+      gain-held t d (a .offers) (a .ends) (a .c) s (v .result) (v .ensures) m (c .run .ensures .1 _ b _ came)
+
+slice-aggregate-all-makers : tie.Need-slice-aggregate-all-makers
+slice-aggregate-all-makers c = search needs
+
 all-makers-requires : tie.Need-all-makers-requires
 all-makers-requires c κs = search needs
 
-spend-tokens-requires : tie.Need-spend-tokens-requires
-spend-tokens-requires c κs = search needs
+slice-aggregate-bringing : tie.Need-slice-aggregate-bringing
+slice-aggregate-bringing c = search needs
 
-spend-stocks-requires : tie.Need-spend-stocks-requires
-spend-stocks-requires c κs = let p = c .before .before .before .before .before .before .before .before .before .before .before .before .before .before .before .before .before .before .before .before .before .before .before .pre in
-    let r = p .1 in
-    (read-spans (c .before .before .before .before .before .before .before .before .before .before .before .before .before .before .before .before .before .before .before .before .before .before .before .args .t .now) (p .0), r .from-all, r .kept-all, r .lasts, r .all-parents, r .few-rows, r .stocks-end)
+slice-aggregate-bringing-2 : tie.Need-slice-aggregate-bringing-2
+slice-aggregate-bringing-2 c = search needs
 
-gain-nodes-requires : tie.Need-gain-nodes-requires
-gain-nodes-requires c κs = let r = c .before .before .before .before .before .before .before .before .before .before .before .before .before .before .before .before .before .before .before .before .before .before .before .before .before .before .before .before .before .before .before .pre .1 in
-    (r .few-ends, r .targets, r .with-value, r .values, r .extra-all, r .place-all, r .more-all)
+bringing-requires : tie.Need-bringing-requires
+bringing-requires c κs = let s = entry (c .before .before) in (rowed s (s .args .offers .has) (s .pre .1 .haves-full), s .pre .2 .few)
 
-run-actions-requires : tie.Need-run-actions-requires
-run-actions-requires c κs = let p = c .before .before .before .before .before .before .before .before .before .before .before .before .before .before .before .before .before .before .before .before .before .before .before .before .before .before .before .before .before .before .before .before .before .before .before .before .before .before .before .pre in
-    let r = p .1 in
-    (read-spans (c .before .before .before .before .before .before .before .before .before .before .before .before .before .before .before .before .before .before .before .before .before .before .before .before .before .before .before .before .before .before .before .before .before .before .before .before .before .before .before .args .t .now) (p .0), r .targets, r .homes, r .few-ends, r .runs-all)
+slice-aggregate-spend : tie.Need-slice-aggregate-spend
+slice-aggregate-spend c = search needs
+
+slice-aggregate-spend-2 : tie.Need-slice-aggregate-spend-2
+slice-aggregate-spend-2 c = search needs
+
+spend-requires : tie.Need-spend-requires
+spend-requires c κs = let s = entry (made-known (c .before .before)) in
+    let f = s .pre .1 in
+    (read-spans (s .args .t .now) (s .pre .0), omega (arith, f .few, f .lasts-full), omega (arith, f .few, f .parents-full), f .few, s .pre .4)
+
+slice-aggregate-gain : tie.Need-slice-aggregate-gain
+slice-aggregate-gain c = omega (arith, from-spent (c .before) .pre .1 .values-full)
+
+gain-requires : tie.Need-gain-requires
+gain-requires c κs = let s = from-spent (c .before .before) in (
+  most-nodes (s .args .t .now) (s .pre .0),
+  s .pre .2,
+  rowed s (s .args .offers .value) (s .pre .1 .values-full),
+  s .pre .5,
+  c .before .before .spend .ensures .0,
+)
+
+run-requires : tie.Need-run-requires
+run-requires c κs = let g = c .before .before in
+    let s = from-gained g in
+    (read-spans (s .args .t .now) (s .pre .0), s .pre .2, g .gain .ensures .0)
+
+slice-aggregate-is-closing : tie.Need-slice-aggregate-is-closing
+slice-aggregate-is-closing c = omega (arith, from-run (c .before) .pre .2 .targets-full)
 
 is-closing-requires : tie.Need-is-closing-requires
-is-closing-requires c κs = let p = c .before .before .before .before .before .before .before .before .before .before .before .before .before .before .before .before .before .before .before .before .before .before .before .before .before .before .before .before .before .before .before .before .before .before .before .before .before .before .before .before .before .before .pre in
-    let r = p .1 in
-    (read-spans (c .before .before .before .before .before .before .before .before .before .before .before .before .before .before .before .before .before .before .before .before .before .before .before .before .before .before .before .before .before .before .before .before .before .before .before .before .before .before .before .before .before .before .args .t .now) (p .0), r .targets, r .target-nodes, r .few-ends)
+is-closing-requires c κs = let s = from-run (c .before) in
+    let f = s .pre .2 in
+    (read-spans (s .args .t .now) (s .pre .0), omega (arith, f .few, f .targets-full), s .pre .3 .target-nodes, f .few)
 
 same-length : tie.Need-same-length
-same-length c = c .before .before .before .before .before .before .before .before .before .before .before .before .before .before .before .before .before .before .before .before .spend-stocks .kept .1 .1 .1 .1 .1 .1 .0
-
-same-length-2 : tie.Need-same-length-2
-same-length-2 c = c .before .before .before .before .before .before .before .before .before .before .before .before .before .before .before .before .before .before .before .before .spend-stocks .kept .1 .1 .1 .1 .1 .1 .1 .0
-
-same-length-3 : tie.Need-same-length-3
-same-length-3 c = c .before .before .before .before .run-actions .kept .1 .1 .1 .1 .1 .1 .0
-
-same-length-4 : tie.Need-same-length-4
-same-length-4 c = c .before .before .before .before .before .before .before .before .before .before .before .before .before .before .before .before .before .before .before .before .before .before .before .before .before .spend-tokens .kept .1 .1 .1 .1 .1 .0
-
-same-length-5 : tie.Need-same-length-5
-same-length-5 c = c .before .before .before .before .before .before .before .before .before .before .before .before .gain-nodes .kept .1 .1 .1 .1 .1 .1 .1 .0
-
-same-length-6 : tie.Need-same-length-6
-same-length-6 c = c .before .before .before .before .before .before .before .before .before .before .before .before .gain-nodes .kept .1 .1 .1 .1 .1 .1 .1 .1 .0
-
-same-length-7 : tie.Need-same-length-7
-same-length-7 c = c .before .before .before .before .before .before .before .before .before .before .before .before .gain-nodes .kept .1 .1 .1 .1 .1 .1 .1 .1 .1 .0
+same-length c = search needs
 
 returns : tie.Need-returns
-returns c = let a = c .before .before .before .before .before .before .before .before .before .before .before .before .before .before .before .before .before .before .before .before .before .before .before .before .before .before .before .before .before .before .before .before .before .before .before .before .before .before .before .before .before .before .before .before .args in
-    let p = c .before .before .before .before .before .before .before .before .before .before .before .before .before .before .before .before .before .before .before .before .before .before .before .before .before .before .before .before .before .before .before .before .before .before .before .before .before .before .before .before .before .before .before .before .pre in
-    let r = p .1 in
-    let t = a .t .now in
-    let w = c .before .before .before .before .before .before .before .before .before .before .before .before .before .before .before .before .before .before .before .before .before .before .before .before .before .before .before .all-makers in
-    let ft = c .before .before .before .before .before .before .before .before .before .before .before .before .before .before .before .before .before .before .before .before .before .before .before .before .before .spend-tokens .ensures in
-    let fs = c .before .before .before .before .before .before .before .before .before .before .before .before .before .before .before .before .before .before .before .before .spend-stocks .ensures in
-    let g = c .before .before .before .before .before .before .before .before .before .before .before .before .gain-nodes in
-    let fr = c .before .before .before .before .run-actions .ensures in
-    λ d o ts b edge f h. stepped t d o ts b (a .ends .now) edge (a .target .now) (a .home .now) (a .from .now) (a .kept .now) (a .runs .now) (a .tokens .now) (a .n) (a .c) h (a .last .now) (a .parents .now) (a .makers .now) (a .valued .now) (a .value .now) (a .rows) f (a .table) (read-spans t (p .0)) (w .result) (w .ensures) _ _ _ _ _ _ _ ft (fs .0) (fs .1) (g .ensures) fr
-    (read-good t (p .0)) (r .few-ends) (r .from-all) (r .kept-all) (le-trans (r .place-all) (le-of-eq (sym (g .kept .1 .1 .1 .1 .1 .1 .1 .1 .0)))) (le-trans (r .more-all) (le-of-eq (sym (g .kept .1 .1 .1 .1 .1 .1 .1 .1 .1 .0)))) (r .runs-all) (r .tokens-all) (sym (c .before .is-closing .ensures) ∙ not-true _ (c .if1 .taken))
+returns c = let r = c .before .before .before in
+    let a = from-run r .args in
+    let q = sym (c .before .is-closing .ensures) ∙ not-true _ (c .if1 .taken) in (
+      r .run .ensures .0,
+      λ d b s live short h. record {
+        held-then = rw (next-open (a .t .now) d (a .offers) (a .ends) (a .c) s q) (moved-held r d b s short h);
+        state = open-state (a .t .now) d (a .offers) (a .ends) (a .c) s live q;
+      },
+    )
 
-clear-nodes-requires : tie.Need-clear-nodes-requires
-clear-nodes-requires c κs = let p = c .before .before .before .before .before .before .before .before .before .before .before .before .before .before .before .before .before .before .before .before .before .before .before .before .before .before .before .before .before .before .before .before .before .before .before .before .before .before .before .before .before .before .before .before .before .before .before .pre in
-    let r = p .1 in
-    (read-spans (c .before .before .before .before .before .before .before .before .before .before .before .before .before .before .before .before .before .before .before .before .before .before .before .before .before .before .before .before .before .before .before .before .before .before .before .before .before .before .before .before .before .before .before .before .before .before .before .args .t .now) (p .0), le-trans (r .kept-all) (le-of-eq (sym (c .before .before .before .before .before .before .before .before .before .before .before .before .before .before .before .before .before .before .before .before .before .before .before .spend-stocks .kept .1 .1 .1 .1 .1 .1 .1 .0))), le-trans (r .runs-all) (le-of-eq (sym (c .before .before .before .before .before .before .before .run-actions .kept .1 .1 .1 .1 .1 .1 .0))), le-trans (r .more-all) (le-of-eq (sym (c .before .before .before .before .before .before .before .before .before .before .before .before .before .before .before .gain-nodes .kept .1 .1 .1 .1 .1 .1 .1 .1 .1 .0))))
+clear-requires : tie.Need-clear-requires
+clear-requires c κs = let r = c .before .before .before in
+    let s = from-run r in
+    (read-spans (s .args .t .now) (s .pre .0), r .run .ensures .0)
 
-clear-edges-requires : tie.Need-clear-edges-requires
-clear-edges-requires c κs = le-trans (c .before .before .before .before .before .before .before .before .before .before .before .before .before .before .before .before .before .before .before .before .before .before .before .before .before .before .before .before .before .before .before .before .before .before .before .before .before .before .before .before .before .before .before .before .before .before .before .before .before .before .before .before .before .before .before .pre .1 .tokens-all) (le-of-eq (sym (c .before .before .before .before .before .before .before .before .before .before .before .before .before .before .before .before .before .before .before .before .before .before .before .before .before .before .before .before .before .before .before .before .before .before .before .before .spend-tokens .kept .1 .1 .1 .1 .1 .0)))
-
-same-length-8 : tie.Need-same-length-8
-same-length-8 c = c .before .before .before .before .before .before .before .before .before .before .before .before .before .before .before .before .before .before .before .before .before .before .before .before .before .before .before .before .before .before .before .before .before .before .spend-stocks .kept .1 .1 .1 .1 .1 .1 .0
-
-same-length-9 : tie.Need-same-length-9
-same-length-9 c = c .before .before .before .before .before .before .before .before .before .before .clear-nodes .kept .1 .1 .0 ∙ c .before .before .before .before .before .before .before .before .before .before .before .before .before .before .before .before .before .before .before .before .before .before .before .before .before .before .before .before .before .before .before .before .before .before .spend-stocks .kept .1 .1 .1 .1 .1 .1 .1 .0
-
-same-length-10 : tie.Need-same-length-10
-same-length-10 c = c .before .before .before .before .before .before .before .before .before .before .clear-nodes .kept .1 .1 .1 .0 ∙ c .before .before .before .before .before .before .before .before .before .before .before .before .before .before .before .before .before .before .run-actions .kept .1 .1 .1 .1 .1 .1 .0
-
-same-length-11 : tie.Need-same-length-11
-same-length-11 c = c .before .before .clear-edges .kept .1 .0 ∙ c .before .before .before .before .before .before .before .before .before .before .before .before .before .before .before .before .before .before .before .before .before .before .before .before .before .before .before .before .before .before .before .before .before .before .before .before .before .before .before .spend-tokens .kept .1 .1 .1 .1 .1 .0
-
-same-length-12 : tie.Need-same-length-12
-same-length-12 c = c .before .before .before .before .before .before .before .before .before .before .before .before .before .before .before .before .before .before .before .before .before .before .before .before .before .before .gain-nodes .kept .1 .1 .1 .1 .1 .1 .1 .0
-
-same-length-13 : tie.Need-same-length-13
-same-length-13 c = c .before .before .before .before .before .before .before .before .before .before .before .before .before .before .before .before .before .before .before .before .before .before .before .before .before .before .gain-nodes .kept .1 .1 .1 .1 .1 .1 .1 .1 .0
-
-same-length-14 : tie.Need-same-length-14
-same-length-14 c = c .before .before .before .before .before .before .before .before .before .before .clear-nodes .kept .1 .1 .1 .1 .0 ∙ c .before .before .before .before .before .before .before .before .before .before .before .before .before .before .before .before .before .before .before .before .before .before .before .before .before .before .gain-nodes .kept .1 .1 .1 .1 .1 .1 .1 .1 .1 .0
+same-length-2 : tie.Need-same-length-2
+same-length-2 c = search needs
 
 returns-2 : tie.Need-returns-2
-returns-2 c = let a = c .before .before .before .before .before .before .before .before .before .before .before .before .before .before .before .before .before .before .before .before .before .before .before .before .before .before .before .before .before .before .before .before .before .before .before .before .before .before .before .before .before .before .before .before .before .before .before .before .before .before .before .before .before .before .before .before .before .before .args in
-    let p = c .before .before .before .before .before .before .before .before .before .before .before .before .before .before .before .before .before .before .before .before .before .before .before .before .before .before .before .before .before .before .before .before .before .before .before .before .before .before .before .before .before .before .before .before .before .before .before .before .before .before .before .before .before .before .before .before .before .before .pre in
-    let r = p .1 in
-    let t = a .t .now in
-    let w = c .before .before .before .before .before .before .before .before .before .before .before .before .before .before .before .before .before .before .before .before .before .before .before .before .before .before .before .before .before .before .before .before .before .before .before .before .before .before .before .before .before .all-makers in
-    let ft = c .before .before .before .before .before .before .before .before .before .before .before .before .before .before .before .before .before .before .before .before .before .before .before .before .before .before .before .before .before .before .before .before .before .before .before .before .before .before .before .spend-tokens .ensures in
-    let fs = c .before .before .before .before .before .before .before .before .before .before .before .before .before .before .before .before .before .before .before .before .before .before .before .before .before .before .before .before .before .before .before .before .before .before .spend-stocks .ensures in
-    let g = c .before .before .before .before .before .before .before .before .before .before .before .before .before .before .before .before .before .before .before .before .before .before .before .before .before .before .gain-nodes in
-    let fr = c .before .before .before .before .before .before .before .before .before .before .before .before .before .before .before .before .before .before .run-actions .ensures in
-    let cn = c .before .before .before .before .before .before .before .before .before .before .clear-nodes .ensures in
-    λ d o ts b edge f h. stopped t d o ts b (a .ends .now) edge (a .target .now) (a .home .now) (a .from .now) (a .kept .now) (a .runs .now) (a .tokens .now) (a .n) (a .c) h (a .last .now) (a .parents .now) (a .makers .now) (a .valued .now) (a .value .now) (a .rows) f (a .table) (read-spans t (p .0)) (w .result) (w .ensures) _ _ _ _ _ _ _ ft (fs .0) (fs .1) (g .ensures) fr
-    (read-good t (p .0)) (r .few-ends) (r .from-all) (r .kept-all) (le-trans (r .place-all) (le-of-eq (sym (g .kept .1 .1 .1 .1 .1 .1 .1 .1 .0)))) (le-trans (r .more-all) (le-of-eq (sym (g .kept .1 .1 .1 .1 .1 .1 .1 .1 .1 .0)))) (r .runs-all) (r .tokens-all) _ _ _ _ (sym (c .before .before .before .before .before .before .before .before .before .before .before .before .before .before .before .is-closing .ensures) ∙ not-false _ (c .before .before .before .before .before .before .before .before .before .before .before .before .before .before .if1 .left)) (cn .0) (cn .1) (cn .2) (c .before .before .clear-edges .ensures)
+returns-2 c = let r = c .before .before .before .before in
+    let a = from-run r .args in
+    let q = sym (c .before .before .is-closing .ensures) ∙ not-false _ (c .before .if1 .left) in (
+      c .clear .ensures .0,
+      λ d b s live short h. record {
+        held-then = rw (next-closed (a .t .now) d (a .offers) (a .ends) (a .c) s q) (c .clear .ensures .1 _ b _ (moved-held r d b s short h));
+        state = closed-state (a .t .now) d (a .offers) (a .ends) (a .c) s q;
+      },
+    )
 
 pub advance-spec : {M : Type 1} → statement M
 advance-spec =
     tie.close
     (tie.spec
+    slice-aggregate-all-makers
     all-makers-requires
-    spend-tokens-requires
-    spend-stocks-requires
-    gain-nodes-requires
-    run-actions-requires
+    slice-aggregate-bringing
+    slice-aggregate-bringing-2
+    bringing-requires
+    slice-aggregate-spend
+    slice-aggregate-spend-2
+    spend-requires
+    slice-aggregate-gain
+    gain-requires
+    run-requires
+    slice-aggregate-is-closing
     is-closing-requires
     same-length
-    same-length-2
-    same-length-3
-    same-length-4
-    same-length-5
-    same-length-6
-    same-length-7
     returns
-    clear-nodes-requires
-    clear-edges-requires
-    same-length-8
-    same-length-9
-    same-length-10
-    same-length-11
-    same-length-12
-    same-length-13
-    same-length-14
+    clear-requires
+    same-length-2
     returns-2)

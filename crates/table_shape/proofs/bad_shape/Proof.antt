@@ -26,7 +26,7 @@ shape-is c =
     let i = c .before .before .before .before .before .loop .i in
     let l : i < nodes t = omega arith in
     let d : Counts t i (c .before .degrees-at .result) = rw (c .before .degrees-at .ensures) (c .before .before .before .before .before .before .before .before .before .before .before .tally .ensures i l) in
-    c .shape-fine .ensures t i (c .before .before .before .kind .ensures .0) d (c .before .before .before .before .before .before .before .before .mark-fed .ensures (blank (limits .mostNodes)) i l) (c .before .before .before .before .before .before .chain-ends .ensures i l)
+    c .shape-fine .ensures t i (c .before .before .before .kind .ensures .0) d (c .before .before .before .before .before .before .before .before .mark-fed .ensures (blank (limits .mostNodes)) .tell i l) (c .before .before .before .before .before .before .chain-ends .ensures .tell i l)
 
 slice-aggregate-tally : tie.Need-slice-aggregate-tally Inv-loop μ-loop
 slice-aggregate-tally c = search needs

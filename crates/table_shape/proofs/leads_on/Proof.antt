@@ -5,7 +5,8 @@ use borrow.Author.Needs.{needs}
 use Rattle.paper.specs.Lists.{at}
 use Rattle.paper.specs.Table.{isControlNode, kind, source}
 use Rattle.paper.proofs.Tables.{edge-facts}
-use Rattle.table_shape.proofs.Laws.{unmarked, is-marked, leads, leads-not}
+use Rattle.words.proofs.Marks.{unmarked, is-marked}
+use Rattle.table_shape.proofs.Laws.{leads, leads-not}
 use Rattle.table_shape.proofs.leads_on.Statement.{statement}
 use Rattle.table_shape.proofs.leads_on.Tie as tie
 
@@ -23,7 +24,7 @@ returns c = λ k h.
     let p = c .before .before .before .before .before in
     let t = p .args .s .now in
     let f = edge-facts t (p .args .j) (p .pre .1 (p .args .j) (omega arith)) in
-    let m = h (source t (p .args .j)) (f .source-fits) in
+    let m = h .tell (source t (p .args .j)) (f .source-fits) in
     sym (leads-not t k (p .args .j) (unmarked _ (sym m ∙ ap (at (p .args .marks .now)) (sym (c .before .before .source .ensures .0)) ∙ c .if1 .taken)))
 
 target-requires : tie.Need-target-requires
@@ -43,7 +44,7 @@ returns-2 c = λ k h.
     let p = c .before .before .before .before .before .before .before .before in
     let t = p .args .s .now in
     let f = edge-facts t (p .args .j) (p .pre .1 (p .args .j) (omega arith)) in
-    let m = h (source t (p .args .j)) (f .source-fits) in
+    let m = h .tell (source t (p .args .j)) (f .source-fits) in
     let on = is-marked _ (λ z. c .before .before .before .if1 .left (ap (at (p .args .marks .now)) (c .before .before .before .before .before .source .ensures .0) ∙ m ∙ z)) in
     c .is-control-node .ensures ∙ ap isControlNode (c .before .kind .ensures .0 ∙ ap (kind t) (c .before .before .target .ensures .0)) ∙ sym (leads t k (p .args .j) on)
 

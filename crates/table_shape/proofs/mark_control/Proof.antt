@@ -1,5 +1,6 @@
 -- `mark_control` marks the control nodes. The invariant: the marks are those of the nodes passed. Assumes nothing.
 use mathlib.Core.Path.{_≡_, _∙_, ap, refl}
+use mathlib.Core.Bool.{false}
 use Prim.Native.Nat.{_≤_, _-_}
 use native.Mathlib.Omega.{arith}
 use lib.ListN.{length}
@@ -7,18 +8,19 @@ use borrow.Author.Needs.{needs}
 use Rattle.paper.specs.Table.{nodes, kind, isControlNode, chain}
 use Rattle.paper.proofs.Counts.{any-below-self}
 use Rattle.table.specs.Reading.{Blank}
-use Rattle.table_shape.proofs.Laws.{Marks, marks-more, marks-done}
+use Rattle.words.specs.Marks.{MarksOf, placed}
+use Rattle.words.proofs.Marks.{pass-more, pass-done}
 use Rattle.table_shape.proofs.mark_control.Statement.{statement}
 use Rattle.table_shape.proofs.mark_control.Tie as tie
 
 abbrev Inv-loop : tie.InvT-loop
-Inv-loop s table marks₀ n i₀ marks i = (i ≤ n) × (n ≡ nodes s) × (length marks ≡ length marks₀) × (Blank marks₀ → Marks (λ x. isControlNode (kind s x)) (λ x. x) i marks)
+Inv-loop s table marks₀ n i₀ marks i = (i ≤ n) × (n ≡ nodes s) × (length marks ≡ length marks₀) × (Blank marks₀ → MarksOf (placed (λ x. isControlNode (kind s x)) (λ x. x) i) (nodes s) marks)
 
 abbrev μ-loop : tie.MeasureT-loop
 μ-loop s table marks₀ n i₀ marks i = n - i
 
 loop-holds : tie.Need-loop-holds Inv-loop μ-loop
-loop-holds c = (search needs, search needs, refl, λ z a. z a)
+loop-holds c = (search needs, search needs, refl, λ z. record { tell = λ a l. z a })
 
 kind-requires : tie.Need-kind-requires Inv-loop μ-loop
 kind-requires c κs = search needs
@@ -27,7 +29,7 @@ is-control-node-requires : tie.Need-is-control-node-requires Inv-loop μ-loop
 is-control-node-requires c κs = search needs
 
 mark-requires : tie.Need-mark-requires Inv-loop μ-loop
-mark-requires c κs = λ on. omega arith
+mark-requires c κs = search needs
 
 add-i : tie.Need-add-i Inv-loop μ-loop
 add-i c = search needs
@@ -42,8 +44,8 @@ loop-again c =
       search needs,
       search needs,
       search needs,
-      λ z. marks-more (λ x. isControlNode (kind t x)) (λ x. x) (l .marks) _ (l .i) _ _ (c .before .before .mark .ensures)
-          (c .before .before .before .is-control-node .ensures ∙ ap isControlNode (c .before .before .before .before .kind .ensures .0)) refl (λ y. omega arith) (l .inv .3 z),
+      λ z. pass-more (λ a. false) (λ x. isControlNode (kind t x)) (λ x. x) _ (l .i) (omega arith) (c .before .before .mark .ensures)
+          (c .before .before .before .is-control-node .ensures ∙ ap isControlNode (c .before .before .before .before .kind .ensures .0)) refl (l .inv .3 z),
     )
 
 same-length : tie.Need-same-length Inv-loop μ-loop
@@ -51,10 +53,10 @@ same-length c = search needs
 
 returns : tie.Need-returns Inv-loop μ-loop
 unfolding chain
-returns c = λ z a l.
+returns c = λ z.
     let t = c .before .before .before .before .args .s .now in
     let o = c .before .loop in
-    marks-done (λ x. isControlNode (kind t x)) (λ x. x) (o .marks) (o .i) (nodes t) a _ (o .inv .3 z) (omega arith) (any-below-self (λ x. isControlNode (kind t x)) (nodes t) a l)
+    pass-done (λ a. false) (λ x. isControlNode (kind t x)) (λ x. x) (o .i) (nodes t) (chain t 1) (o .inv .3 z) (omega arith) (any-below-self (λ x. isControlNode (kind t x)) (nodes t))
 
 pub mark-control-spec : {M : Type 1} → statement M
 mark-control-spec =

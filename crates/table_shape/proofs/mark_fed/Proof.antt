@@ -1,6 +1,6 @@
 -- `mark_fed` marks the actions that a pin feeds. The invariant: the marks are those of the nodes passed. Assumes nothing.
-use mathlib.Core.Path.{_≡_, _∙_, sym, refl}
-use mathlib.Core.Bool.{_&&_}
+use mathlib.Core.Path.{_≡_, sym, refl}
+use mathlib.Core.Bool.{false, _&&_}
 use Prim.Native.Nat.{_≤_, _-_}
 use native.Mathlib.Omega.{arith}
 use lib.Dec.{leb}
@@ -9,18 +9,20 @@ use borrow.Author.Needs.{needs}
 use Rattle.paper.specs.Table.{nodes, kind, owner, lower, isInput}
 use Rattle.paper.proofs.Shapes.{fed-by}
 use Rattle.table.specs.Reading.{Blank}
-use Rattle.table_shape.proofs.Laws.{Marks, marks-more, marks-done, feeder-owner}
+use Rattle.words.specs.Marks.{MarksOf, placed}
+use Rattle.words.proofs.Marks.{pass-more, pass-done}
+use Rattle.table_shape.specs.Shape.{isFed}
 use Rattle.table_shape.proofs.mark_fed.Statement.{statement}
 use Rattle.table_shape.proofs.mark_fed.Tie as tie
 
 abbrev Inv-loop : tie.InvT-loop
-Inv-loop s table fed₀ n i₀ fed i = (i ≤ n) × (n ≡ nodes s) × (length fed ≡ length fed₀) × (Blank fed₀ → Marks (λ p. isInput (kind s p) && leb 1 (lower s p)) (owner s) i fed)
+Inv-loop s table fed₀ n i₀ fed i = (i ≤ n) × (n ≡ nodes s) × (length fed ≡ length fed₀) × (Blank fed₀ → MarksOf (placed (λ p. isInput (kind s p) && leb 1 (lower s p)) (owner s) i) (nodes s) fed)
 
 abbrev μ-loop : tie.MeasureT-loop
 μ-loop s table fed₀ n i₀ fed i = n - i
 
 loop-holds : tie.Need-loop-holds Inv-loop μ-loop
-loop-holds c = (search needs, search needs, refl, λ z a. z a)
+loop-holds c = (search needs, search needs, refl, λ z. record { tell = λ a l. z a })
 
 feeds-requires : tie.Need-feeds-requires Inv-loop μ-loop
 feeds-requires c κs = search needs
@@ -29,11 +31,7 @@ owner-requires : tie.Need-owner-requires Inv-loop μ-loop
 owner-requires c κs = search needs
 
 mark-requires : tie.Need-mark-requires Inv-loop μ-loop
-mark-requires c κs = λ on.
-    let p = c .before .before .before .before .before .before .before in
-    let i = c .before .before .before .before .loop .i in
-    let o = feeder-owner (p .args .s .now) i (p .pre .1 i (omega arith)) (sym (c .before .feeds .ensures) ∙ on) in
-    omega arith
+mark-requires c κs = search needs
 
 add-i : tie.Need-add-i Inv-loop μ-loop
 add-i c = search needs
@@ -49,19 +47,18 @@ loop-again c =
       search needs,
       search needs,
       search needs,
-      λ z. marks-more (λ p. isInput (kind t p) && leb 1 (lower t p)) (owner t) (l .fed) _ (l .i) _ _ (c .before .before .mark .ensures)
-          (c .before .before .before .before .feeds .ensures) (c .before .before .before .owner .ensures .0)
-          (λ y. let o = feeder-owner t (l .i) (p .pre .1 (l .i) (omega arith)) y in omega arith) (l .inv .3 z),
+      λ z. pass-more (λ a. false) (λ p. isInput (kind t p) && leb 1 (lower t p)) (owner t) _ (l .i) (omega arith) (c .before .before .mark .ensures)
+          (c .before .before .before .before .feeds .ensures) (c .before .before .before .owner .ensures .0) (l .inv .3 z),
     )
 
 same-length : tie.Need-same-length Inv-loop μ-loop
 same-length c = search needs
 
 returns : tie.Need-returns Inv-loop μ-loop
-returns c = λ z a l.
+returns c = λ z.
     let t = c .before .before .before .before .args .s .now in
     let o = c .before .loop in
-    marks-done (λ p. isInput (kind t p) && leb 1 (lower t p)) (owner t) (o .fed) (o .i) (nodes t) a _ (o .inv .3 z) (omega arith) (sym (fed-by t a))
+    pass-done (λ a. false) (λ p. isInput (kind t p) && leb 1 (lower t p)) (owner t) (o .i) (nodes t) (isFed t) (o .inv .3 z) (omega arith) (λ a l. sym (fed-by t a))
 
 pub mark-fed-spec : {M : Type 1} → statement M
 mark-fed-spec =

@@ -1,7 +1,8 @@
 -- `shape_fine` is row 4 at a node, kind by kind. Assumes nothing.
 use mathlib.Core.Path.{sym, _∙_}
 use borrow.Author.Needs.{needs}
-use Rattle.table_shape.proofs.Laws.{unmarked, is-marked, at-chain-end, at-action, at-decision, at-merge, at-fork, at-join, at-rest}
+use Rattle.words.proofs.Marks.{unmarked, is-marked}
+use Rattle.table_shape.proofs.Laws.{at-chain-end, at-action, at-decision, at-merge, at-fork, at-join, at-rest}
 use Rattle.table_shape.proofs.shape_fine.Statement.{statement}
 use Rattle.table_shape.proofs.shape_fine.Tie as tie
 

@@ -10,18 +10,18 @@ use Rattle.why.proofs.find.Statement.{statement}
 use Rattle.why.proofs.find.Tie as tie
 
 choose-requires : tie.Need-choose-requires
-choose-requires c κs = let h = c .before .before .before .pre in (h .0, h .1, h .2)
+choose-requires c κs = let h = c .before .before .pre in (h .0, h .1, h .2, h .3)
 
 returns : tie.Need-returns
-returns c = λ l links d ts s m r.
-    let p = c .before .before .before .before .pre in
-    last-answered links (p .1) s m (c .before .before .before .before .args .node) (λ e. omega (arith, e, p .3, most-nodes _ (p .0))) (c .before .before .before .before .args .k) l (c .before .if1 .taken) (c .choose .result) (c .choose .ensures links d ts s m r)
+returns c = λ l d s.
+    let p = c .before .before .before .pre in
+    last-answered s (c .before .before .before .args .node) (λ e. omega (arith, e, p .4, most-nodes _ (p .0))) (c .before .before .before .args .k) l (c .before .if1 .taken) (c .choose .result) (c .choose .ensures d s)
 
 slice-aggregate-prepare : tie.Need-slice-aggregate-prepare
 slice-aggregate-prepare c = search needs
 
 prepare-requires : tie.Need-prepare-requires
-prepare-requires c κs = let h = c .before .before .before .before .pre in (h .0, h .1, h .2, h .3, blank 440, omega arith)
+prepare-requires c κs = let h = c .before .before .before .pre in (h .0, h .1, h .2, h .3, h .4, blank 440, omega arith)
 
 slice-aggregate-first : tie.Need-slice-aggregate-first
 slice-aggregate-first c = search needs
@@ -30,8 +30,8 @@ first-requires : tie.Need-first-requires
 first-requires c κs = search needs
 
 returns-2 : tie.Need-returns-2
-returns-2 c = λ l links d ts s m r. let a = c .before .before .before .before .before .before .before .before .args in
-    level-answered (levels d (a .node)) (a .n) (howMany d) (suc (a .k)) (s .number) _ (c .before .before .before .prepare .ensures .1 (omega (arith, c .before .before .before .before .before .if1 .left)) links d ts s m r) (c .first .result) (c .first .ensures)
+returns-2 c = λ l d s. let a = c .before .before .before .before .before .before .before .args in
+    level-answered (levels d (a .node)) (a .ends .count) (howMany d) (suc (a .k)) (s .seated .number) _ (c .before .before .before .prepare .ensures .1 (omega (arith, c .before .before .before .before .before .if1 .left)) d s) (c .first .result) (c .first .ensures)
 
 pub find-spec : {M : Type 1} → statement M
 find-spec =

@@ -19,13 +19,13 @@ wide-requires : tie.Need-wide-requires
 wide-requires c κs = search needs
 
 returns-2 : tie.Need-returns-2
-returns-2 c = let n = c .before .before .before .before .before .before .args .n in let e : n + 22 ≡ suc (n + 21) = omega arith in (omega arith, rw (e, pow-suc 2 (n + 21)) (omega (arith, pow-pos (n + 21))))
+returns-2 c = let n = c .before .before .before .before .before .args .ends .count in let e : n + 22 ≡ suc (n + 21) = omega arith in (omega arith, rw (e, pow-suc 2 (n + 21)) (omega (arith, pow-pos (n + 21))))
 
 slice-aggregate-prepare : tie.Need-slice-aggregate-prepare
 slice-aggregate-prepare c = search needs
 
 prepare-requires : tie.Need-prepare-requires
-prepare-requires c κs = let h = c .before .before .before .before .before .before .before .pre in (h .0, h .1, h .2, omega (arith, c .before .before .before .wide .ensures .0, c .before .if2 .left), blank 440, omega arith)
+prepare-requires c κs = let h = c .before .before .before .before .before .before .pre in (h .0, h .1, h .2, h .3, omega (arith, c .before .before .before .wide .ensures .0, c .before .if2 .left), blank 440, omega arith)
 
 slice-aggregate-effort : tie.Need-slice-aggregate-effort
 slice-aggregate-effort c = search needs

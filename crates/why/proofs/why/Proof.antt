@@ -14,8 +14,8 @@ same-length : tie.Need-same-length
 same-length c = search needs
 
 returns : tie.Need-returns
-returns c = λ links d ts s m r.
-    why-leaves d (c .before .before .before .before .before .before .before .before .args .node) (c .before .before .before .before .reason .result) (c .before .before .tell .result) (c .before .before .before .before .before .before .before .before .args .out .now) _ (c .before .before .before .before .reason .ensures links d ts s m r) (c .before .before .tell .ensures)
+returns c = λ d s.
+    why-leaves d (c .before .before .before .before .before .before .before .args .node) (c .before .before .before .before .reason .result) (c .before .before .tell .result) (c .before .before .before .before .before .before .before .args .out .now) _ (c .before .before .before .before .reason .ensures d s) (c .before .before .tell .ensures)
 
 pub why-spec : {M : Type 1} → statement M
 why-spec = tie.close (tie.spec reason-requires tell-requires same-length returns)

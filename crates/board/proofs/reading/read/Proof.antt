@@ -1,204 +1,153 @@
 -- `read`: row after row, each by what its reader answers. Assumes nothing.
 use mathlib.Core.Path.{sym, ap, _∙_}
-use native.Mathlib.Omega.{arith}
 use Rattle.paper.specs.Offers.{terms}
 use Rattle.table.proofs.Reading.{read-spans}
-use Rattle.marking_held.specs.TakenUp.{held}
-use Rattle.marking_held.proofs.TakenUp.{live-read}
+use Rattle.marking_held.proofs.HeldLaws.{live-up}
 use Rattle.terms.specs.Terms.{said}
 use Rattle.board.specs.Reading.{seats}
 use Rattle.board.proofs.Ladder.{board-5, board-6, board-terms, refused-board, fine-long}
 use borrow.Author.Needs.{needs}
 use Rattle.board.proofs.reading.read.Statement.{statement}
 use Rattle.board.proofs.reading.read.Tie as tie
+use Rattle.board.proofs.reading.read.Reads as reads
+use Rattle.board.proofs.reading.read.Lts as lts
+use Rattle.board.proofs.reading.lay.Reads as lay-reads
+use Rattle.board.proofs.reading.refused.Reads as refused-reads
+use Rattle.marking_held.proofs.read_up.Reads as read-up-reads
+use Rattle.terms.proofs.read.Reads as read-reads
 
-take-up-requires : tie.Need-take-up-requires
-take-up-requires c κs = let a = c .before .before .before .before .before .before .before .before .before .before .before .before .before .before .before .before .args in
-    let h = c .before .before .before .before .before .before .before .before .before .before .before .before .before .before .before .before .pre in
-    let t = a .t .now in
-    let b = a .b .now in
-    let g = a .g .now in
-    let x = a .bounds .now in
-    let s = read-spans t (h .0) in
-    (h .0, omega (arith, h .1 .froms, s .nodes-read), omega (arith, h .1 .kepts, s .nodes-read), omega (arith, h .1 .runs-there, s .nodes-read), omega (arith, h .1 .tokens-there, s .edges-read))
+-- src/reading.rt:161:9
+read-up-requires : tie.Need-read-up-requires
+read-up-requires c κs = search needs
 
 enum-told : tie.Need-enum-told
 enum-told c = search needs
 
+-- src/reading.rt:165:33
 enum-told-2 : tie.Need-enum-told-2
 enum-told-2 c = search needs
 
+-- src/reading.rt:165:33
 refused-requires : tie.Need-refused-requires
 refused-requires c κs = search needs
 
-same-length : tie.Need-same-length
-same-length c = c .before .before .before .before .before .before .before .before .before .before .before .take-up .kept .1 .1 .1 .0
-
-same-length-2 : tie.Need-same-length-2
-same-length-2 c = c .before .before .before .before .before .before .before .before .before .before .before .take-up .kept .1 .1 .1 .1 .0
-
-same-length-3 : tie.Need-same-length-3
-same-length-3 c = c .before .before .before .before .before .before .before .before .before .before .before .take-up .kept .1 .1 .1 .1 .1 .0
-
-same-length-4 : tie.Need-same-length-4
-same-length-4 c = c .before .before .before .before .before .before .before .before .before .before .before .take-up .kept .1 .1 .1 .1 .1 .1 .0
-
+-- src/reading.rt:165:33
 returns : tie.Need-returns
-returns c = let a = c .before .before .before .before .before .before .before .before .before .before .before .before .before .before .before .before .before .before .before .before .before .before .before .before .before .before .before .before .args in
-    let h = c .before .before .before .before .before .before .before .before .before .before .before .before .before .before .before .before .before .before .before .before .before .before .before .before .before .before .before .before .pre in
-    let t = a .t .now in
-    let b = a .b .now in
-    let g = a .g .now in
-    let x = a .bounds .now in
-    refused-board t b (terms g x) (c .refused .result .offers) (held (c .before .before .before .before .before .before .before .before .before .before .before .take-up .last .1 .1 .1 .0) (c .before .before .before .before .before .before .before .before .before .before .before .take-up .last .1 .1 .1 .1 .0) (c .before .before .before .before .before .before .before .before .before .before .before .take-up .last .1 .1 .1 .1 .1 .0) (c .before .before .before .before .before .before .before .before .before .before .before .take-up .last .1 .1 .1 .1 .1 .1 .0)) (seats (a .ends .now) (a .order .now) (a .lens .now) (a .cells .now)) (c .refused .result .answer) 6 0 (c .refused .ensures)
-    (board-6 t b g x (h .0) (c .before .before .before .before .before .before .before .before .before .before .before .take-up .last .1 .1 .1 .0) (c .before .before .before .before .before .before .before .before .before .before .before .take-up .last .1 .1 .1 .1 .0) (c .before .before .before .before .before .before .before .before .before .before .before .take-up .last .1 .1 .1 .1 .1 .0) (c .before .before .before .before .before .before .before .before .before .before .before .take-up .last .1 .1 .1 .1 .1 .1 .0) (c .before .before .before .before .before .before .before .before .before .before .before .take-up .result) (c .before .before .before .before .before .before .before .before .before .before .before .take-up .ensures) (c .before .enum-told2 .given .1))
+returns c =
+    let s = c .before .before .before .before .before .before .before .before .before .before .before .before in
+    let a = s .args in
+    let u = c .before .before .before .read-up in
+    let o = c .refused in (
+      o .ensures .0,
+      refused-board (a .t .now) (a .b .now) (terms (a .g .now) (a .bounds .now)) (o .result .offers) (o .result .held)
+          (seats (a .ends .now) (a .order .now) (a .lens .now) (a .cells .now)) (o .result .answer) 6 0 (o .ensures .1)
+          (board-6 (a .t .now) (a .b .now) (a .g .now) (a .bounds .now) (s .pre .0) (u .result) (u .ensures .1) (c .before .enum-told2 .given .1)),
+    )
 
-enum-known-number : tie.Need-enum-known-number
-enum-known-number c = search needs
+-- src/reading.rt:166:32
+enum-known-live : tie.Need-enum-known-live
+enum-known-live c = search needs
 
+-- src/reading.rt:166:50
 refused-requires-2 : tie.Need-refused-requires-2
 refused-requires-2 c κs = search needs
 
-same-length-5 : tie.Need-same-length-5
-same-length-5 c = c .before .before .before .before .before .before .before .before .before .before .before .before .take-up .kept .1 .1 .1 .0
-
-same-length-6 : tie.Need-same-length-6
-same-length-6 c = c .before .before .before .before .before .before .before .before .before .before .before .before .take-up .kept .1 .1 .1 .1 .0
-
-same-length-7 : tie.Need-same-length-7
-same-length-7 c = c .before .before .before .before .before .before .before .before .before .before .before .before .take-up .kept .1 .1 .1 .1 .1 .0
-
-same-length-8 : tie.Need-same-length-8
-same-length-8 c = c .before .before .before .before .before .before .before .before .before .before .before .before .take-up .kept .1 .1 .1 .1 .1 .1 .0
-
+-- src/reading.rt:166:50
 returns-2 : tie.Need-returns-2
-returns-2 c = let a = c .before .before .before .before .before .before .before .before .before .before .before .before .before .before .before .before .before .before .before .before .before .before .before .before .before .before .before .before .before .args in
-    let h = c .before .before .before .before .before .before .before .before .before .before .before .before .before .before .before .before .before .before .before .before .before .before .before .before .before .before .before .before .before .pre in
-    let t = a .t .now in
-    let b = a .b .now in
-    let g = a .g .now in
-    let x = a .bounds .now in
-    let q = c .before .before .number .given in
-    refused-board t b (terms g x) (c .refused2 .result .offers) (held (c .before .before .before .before .before .before .before .before .before .before .before .before .take-up .last .1 .1 .1 .0) (c .before .before .before .before .before .before .before .before .before .before .before .before .take-up .last .1 .1 .1 .1 .0) (c .before .before .before .before .before .before .before .before .before .before .before .before .take-up .last .1 .1 .1 .1 .1 .0) (c .before .before .before .before .before .before .before .before .before .before .before .before .take-up .last .1 .1 .1 .1 .1 .1 .0)) (seats (a .ends .now) (a .order .now) (a .lens .now) (a .cells .now)) (c .refused2 .result .answer) _ _ (c .refused2 .ensures)
-    (board-5 t b g x (h .0) (c .before .before .before .before .before .before .before .before .before .before .before .before .take-up .last .1 .1 .1 .0) (c .before .before .before .before .before .before .before .before .before .before .before .before .take-up .last .1 .1 .1 .1 .0) (c .before .before .before .before .before .before .before .before .before .before .before .before .take-up .last .1 .1 .1 .1 .1 .0) (c .before .before .before .before .before .before .before .before .before .before .before .before .take-up .last .1 .1 .1 .1 .1 .1 .0) (c .before .before .before .before .before .before .before .before .before .before .before .before .take-up .result) (c .before .before .before .before .before .before .before .before .before .before .before .before .take-up .ensures) _ _ (q .1))
+returns-2 c =
+    let s = c .before .before .before .before .before .before .before .before .before .before .before .before .before in
+    let a = s .args in
+    let u = c .before .before .before .before .read-up in
+    let o = c .refused2 in (
+      o .ensures .0,
+      refused-board (a .t .now) (a .b .now) (terms (a .g .now) (a .bounds .now)) (o .result .offers) (o .result .held)
+          (seats (a .ends .now) (a .order .now) (a .lens .now) (a .cells .now)) (o .result .answer) _ _ (o .ensures .1)
+          (board-5 (a .t .now) (a .b .now) (a .g .now) (a .bounds .now) (s .pre .0) (u .result) (u .ensures .1) _ _ (c .before .before .live .given .1)),
+    )
 
+-- src/reading.rt:168:50
 read-requires : tie.Need-read-requires
-read-requires c κs = read-spans (c .before .before .before .before .before .before .before .before .before .before .before .before .before .before .before .before .before .before .before .before .before .before .before .before .before .before .before .args .t .now) (c .before .before .before .before .before .before .before .before .before .before .before .before .before .before .before .before .before .before .before .before .before .before .before .before .before .before .before .pre .0)
+read-requires c κs = read-spans _ (c .before .before .before .before .before .before .before .before .before .before .before .pre .0)
 
-enum-known-number-2 : tie.Need-enum-known-number-2
-enum-known-number-2 c = search needs
+-- src/reading.rt:168:33
+enum-known-number : tie.Need-enum-known-number
+enum-known-number c = search needs
 
+-- src/reading.rt:169:9
 refused-requires-3 : tie.Need-refused-requires-3
 refused-requires-3 c κs = search needs
 
-same-length-9 : tie.Need-same-length-9
-same-length-9 c = c .before .before .before .before .before .before .before .before .before .before .before .before .before .before .before .take-up .kept .1 .1 .1 .0
-
-same-length-10 : tie.Need-same-length-10
-same-length-10 c = c .before .before .before .before .before .before .before .before .before .before .before .before .before .before .before .take-up .kept .1 .1 .1 .1 .0
-
-same-length-11 : tie.Need-same-length-11
-same-length-11 c = c .before .before .before .before .before .before .before .before .before .before .before .before .before .before .before .take-up .kept .1 .1 .1 .1 .1 .0
-
-same-length-12 : tie.Need-same-length-12
-same-length-12 c = c .before .before .before .before .before .before .before .before .before .before .before .before .before .before .before .take-up .kept .1 .1 .1 .1 .1 .1 .0
-
+-- src/reading.rt:169:9
 returns-3 : tie.Need-returns-3
-returns-3 c = let a = c .before .before .before .before .before .before .before .before .before .before .before .before .before .before .before .before .before .before .before .before .before .before .before .before .before .before .before .before .before .before .before .before .args in
-    let h = c .before .before .before .before .before .before .before .before .before .before .before .before .before .before .before .before .before .before .before .before .before .before .before .before .before .before .before .before .before .before .before .before .pre in
-    let t = a .t .now in
-    let b = a .b .now in
-    let g = a .g .now in
-    let x = a .bounds .now in
-    let u = c .before .before .before .before .before .before .before .before .before .before .before .before .before .before .before .take-up in
-    let l = live-read t b (u .last .1 .1 .1 .0) (u .last .1 .1 .1 .1 .0) (u .last .1 .1 .1 .1 .1 .0) (u .last .1 .1 .1 .1 .1 .1 .0) (u .result) (u .ensures) (c .before .before .before .before .before .enum-told .given .1) in
-    let q = sym (ap said (c .before .before .number2 .given .1)) ∙ c .before .before .before .before .read .ensures in
-    refused-board t b (terms g x) (c .refused3 .result .offers) (held (u .last .1 .1 .1 .0) (u .last .1 .1 .1 .1 .0) (u .last .1 .1 .1 .1 .1 .0) (u .last .1 .1 .1 .1 .1 .1 .0)) (seats (a .ends .now) (a .order .now) (a .lens .now) (a .cells .now)) (c .refused3 .result .answer) _ _ (c .refused3 .ensures)
-    (board-terms t b g x (h .0) l _ _ q)
+returns-3 c =
+    let s = c .before .before .before .before .before .before .before .before .before .before .before .before .before .before .before .before in
+    let a = s .args in
+    let u = c .before .before .before .before .before .before .before .read-up in
+    let o = c .refused3 in
+    let l = live-up (a .t .now) (a .b .now) (u .result) (u .ensures .1) (u .ensures .0) (c .before .before .before .before .before .enum-told .given .1) in
+    let q = sym (ap said (c .before .before .number .given .1)) ∙ c .before .before .before .before .read .ensures in (
+      o .ensures .0,
+      refused-board (a .t .now) (a .b .now) (terms (a .g .now) (a .bounds .now)) (o .result .offers) (o .result .held)
+          (seats (a .ends .now) (a .order .now) (a .lens .now) (a .cells .now)) (o .result .answer) _ _ (o .ensures .1)
+          (board-terms (a .t .now) (a .b .now) (a .g .now) (a .bounds .now) (s .pre .0) l _ _ q),
+    )
 
 enum-told-3 : tie.Need-enum-told-3
 enum-told-3 c = search needs
 
-seat-requires : tie.Need-seat-requires
-seat-requires c κs = let a = c .before .before .before .before .before .before .before .before .before .before .before .before .before .before .before .before .before .before .before .before .before .before .before .before .before .before .before .before .before .before .before .before .before .before .before .before .before .args in
-    let h = c .before .before .before .before .before .before .before .before .before .before .before .before .before .before .before .before .before .before .before .before .before .before .before .before .before .before .before .before .before .before .before .before .before .before .before .before .before .pre in
-    let t = a .t .now in
-    let g = a .g .now in
-    let x = a .bounds .now in
-    let f = sym (sym (ap said (c .before .before .before .before .before .before .before .enum-told3 .given .1)) ∙ c .before .before .before .before .before .before .before .before .before .read .ensures) in
-    let k = c .before .before .before .before .before .before .before .before .before .before .before .before .before .before .before .before .before .before .before .before .take-up .kept in
-    ((h .0, fine-long t g x f, omega (arith, h .1 .froms, k .1 .1 .1 .0), omega (arith, h .1 .kepts, k .1 .1 .1 .1 .0), omega (arith, h .1 .tokens-there, k .1 .1 .1 .1 .1 .1 .0)), h .2)
+-- src/reading.rt:171:5
+lay-requires : tie.Need-lay-requires
+lay-requires c κs =
+    let s = c .before .before .before .before .before .before .before .before .before .before .before .before .before .before .before .before .before .before in
+    let f = sym (sym (ap said (c .before .before .before .before .enum-told3 .given .1)) ∙ c .before .before .before .before .before .before .read .ensures) in
+    (s .pre .0, c .before .before .before .before .before .before .before .before .before .read-up .ensures .0, fine-long (s .args .t .now) (s .args .g .now) (s .args .bounds .now) f, s .pre .1)
 
-same-length-13 : tie.Need-same-length-13
-same-length-13 c = c .before .before .before .before .before .before .before .before .before .before .before .before .before .before .before .before .before .before .before .before .before .before .before .before .before .before .before .before .before .take-up .kept .1 .1 .1 .0
+-- src/reading.rt:147:1
+same-length : tie.Need-same-length
+same-length c = search needs
 
-same-length-14 : tie.Need-same-length-14
-same-length-14 c = c .before .before .before .before .before .before .before .before .before .before .before .before .before .before .before .before .before .before .before .before .before .before .before .before .before .before .before .before .before .take-up .kept .1 .1 .1 .1 .0
+-- src/reading.rt:147:1
+same-length-2 : tie.Need-same-length-2
+same-length-2 c = search needs
 
-same-length-15 : tie.Need-same-length-15
-same-length-15 c = c .before .before .before .before .before .before .before .before .before .before .before .before .before .before .before .before .before .before .before .before .before .before .before .before .before .before .before .before .before .take-up .kept .1 .1 .1 .1 .1 .0
+-- src/reading.rt:147:1
+same-length-3 : tie.Need-same-length-3
+same-length-3 c = search needs
 
-same-length-16 : tie.Need-same-length-16
-same-length-16 c = c .before .before .before .before .before .before .before .before .before .before .before .before .before .before .before .before .before .before .before .before .before .before .before .before .before .before .before .before .before .take-up .kept .1 .1 .1 .1 .1 .1 .0
+-- src/reading.rt:147:1
+same-length-4 : tie.Need-same-length-4
+same-length-4 c = search needs
 
-same-length-17 : tie.Need-same-length-17
-same-length-17 c = c .before .before .before .before .before .before .before .before .seat .kept .1 .1 .1 .1 .1 .1 .1 .1 .0
-
-same-length-18 : tie.Need-same-length-18
-same-length-18 c = c .before .before .before .before .before .before .before .before .seat .kept .1 .1 .1 .1 .1 .1 .1 .1 .1 .0
-
-same-length-19 : tie.Need-same-length-19
-same-length-19 c = c .before .before .before .before .before .before .before .before .seat .kept .1 .1 .1 .1 .1 .1 .1 .1 .1 .1 .0
-
-same-length-20 : tie.Need-same-length-20
-same-length-20 c = c .before .before .before .before .before .before .before .before .seat .kept .1 .1 .1 .1 .1 .1 .1 .1 .1 .1 .1 .0
-
+-- src/reading.rt:147:1
 returns-4 : tie.Need-returns-4
-returns-4 c = let a = c .before .before .before .before .before .before .before .before .before .before .before .before .before .before .before .before .before .before .before .before .before .before .before .before .before .before .before .before .before .before .before .before .before .before .before .before .before .before .before .before .before .before .before .before .before .before .args in
-    let t = a .t .now in
-    let b = a .b .now in
-    let g = a .g .now in
-    let x = a .bounds .now in
-    let u = c .before .before .before .before .before .before .before .before .before .before .before .before .before .before .before .before .before .before .before .before .before .before .before .before .before .before .before .before .before .take-up in
-    let l = live-read t b (u .last .1 .1 .1 .0) (u .last .1 .1 .1 .1 .0) (u .last .1 .1 .1 .1 .1 .0) (u .last .1 .1 .1 .1 .1 .1 .0) (u .result) (u .ensures) (c .before .before .before .before .before .before .before .before .before .before .before .before .before .before .before .before .before .before .before .enum-told .given .1) in
-    c .before .before .before .before .before .before .before .before .seat .ensures (u .last .1 .1 .1 .1 .1 .0) l (sym (sym (ap said (c .before .before .before .before .before .before .before .before .before .before .before .before .before .before .before .before .enum-told3 .given .1)) ∙ c .before .before .before .before .before .before .before .before .before .before .before .before .before .before .before .before .before .before .read .ensures))
+returns-4 c =
+    let s = c .before .before .before .before .before .before .before .before .before .before .before .before .before .before .before .before .before .before .before .before .before .before .before .before .before .before .before in
+    let a = s .args in
+    let u = c .before .before .before .before .before .before .before .before .before .before .before .before .before .before .before .before .before .before .read-up in
+    let l = live-up (a .t .now) (a .b .now) (u .result) (u .ensures .1) (u .ensures .0) (c .before .before .before .before .before .before .before .before .before .before .before .before .before .before .before .before .enum-told .given .1) in
+    let y = c .before .before .before .before .before .before .before .before .lay .ensures in
+    (y .0, y .1 l (sym (sym (ap said (c .before .before .before .before .before .before .before .before .before .before .before .before .before .enum-told3 .given .1)) ∙ c .before .before .before .before .before .before .before .before .before .before .before .before .before .before .before .read .ensures)))
 
 pub read-spec : {M : Type 1} → statement M
 read-spec =
     tie.close
     (tie.spec
-    take-up-requires
+    read-up-requires
     enum-told
     enum-told-2
     refused-requires
+    returns
+    enum-known-live
+    refused-requires-2
+    returns-2
+    read-requires
+    enum-known-number
+    refused-requires-3
+    returns-3
+    enum-told-3
+    lay-requires
     same-length
     same-length-2
     same-length-3
     same-length-4
-    returns
-    enum-known-number
-    refused-requires-2
-    same-length-5
-    same-length-6
-    same-length-7
-    same-length-8
-    returns-2
-    read-requires
-    enum-known-number-2
-    refused-requires-3
-    same-length-9
-    same-length-10
-    same-length-11
-    same-length-12
-    returns-3
-    enum-told-3
-    seat-requires
-    same-length-13
-    same-length-14
-    same-length-15
-    same-length-16
-    same-length-17
-    same-length-18
-    same-length-19
-    same-length-20
     returns-4)

@@ -1,0 +1,26 @@
+-- `made_from`: nothing, or the parents. Assumes nothing.
+use mathlib.Core.Path.{sym, _∙_}
+use borrow.Author.Tests.{not-true, not-false}
+use Rattle.paper.proofs.Digits.{has-zero}
+use borrow.Author.Needs.{needs}
+use Rattle.choice_judge.proofs.made_from.Statement.{statement}
+use Rattle.choice_judge.proofs.made_from.Tie as tie
+
+in-word-requires : tie.Need-in-word-requires
+in-word-requires c κs = search needs
+
+returns : tie.Need-returns
+returns c = λ b. has-zero b ∙ sym (rw (sym (c .before .in-word .ensures) ∙ not-true _ (c .if1 .taken)))
+
+mul-result : tie.Need-mul-result
+mul-result c = search needs
+
+shared-slice-read-result : tie.Need-shared-slice-read-result
+shared-slice-read-result c = search needs
+
+returns-2 : tie.Need-returns-2
+returns-2 c = λ b. sym (rw (sym (c .before .before .in-word .ensures) ∙ not-false _ (c .before .if1 .left)))
+
+pub made-from-spec : {M : Type 1} → statement M
+made-from-spec =
+    tie.close (tie.spec in-word-requires returns mul-result shared-slice-read-result returns-2)

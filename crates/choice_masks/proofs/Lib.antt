@@ -1,0 +1,2 @@
+-- Laws of masks of ends.
+pub mod Masking

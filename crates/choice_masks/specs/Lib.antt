@@ -1,0 +1,2 @@
+-- What masks of ends say.
+pub mod Masks

@@ -1,0 +1,96 @@
+-- What a `Held` means: a marking, whose stocks are values that stay, in old bytes, and values that come, in others. Assumes nothing.
+use Prim.Native.Nat.{ℕ, _+_, _*_, _≤_, _<_}
+use mathlib.Core.Path.{_≡_}
+use mathlib.Core.Bool.{true, false}
+use mathlib.Core.List.{List, [], _++_}
+use mathlib.Core.Option.{Option, none, some}
+use lib.ListN.{length, take, drop}
+use Rattle.paper.specs.Lists.{at, oneIf, gather}
+use Rattle.paper.specs.Bytes.{four}
+use Rattle.paper.specs.Answers.{refused, good}
+use Rattle.paper.specs.Table.{nodes, edges, kind, isObjectNode, isAction}
+use Rattle.paper.specs.Marking.{Marking, counted, marking}
+use Rattle.table.specs.Reading.{Blank}
+use Rattle.marking.specs.Reading.{NodesNoted, EdgesNoted, said}
+use Rattle.marking_held.specs.declared.Held.{Held}
+use Rattle.marking_held.specs.declared.HeldAnswer.{HeldAnswer}
+use Rattle.marking_held.specs.Holding.{NodesHeld, EdgesHeld}
+
+-- `kept` values stand in `old` from place `from` on, `more` values in `extra` from `place` on, and a byte says how many they are
+pub record StockInside (old extra : List ℕ) (from kept place more : ℕ) : Type 0 where
+  pub few : kept + more ≤ 255
+  pub in-old : from + 4 * kept ≤ length old
+  pub in-extra : place + 4 * more ≤ length extra
+
+-- and these are the values vs
+pub record StockHeld (vs old extra : List ℕ) (from kept place more : ℕ) : Type 0 where
+  pub many : length vs ≡ kept + more
+  pub stand : gather four vs ≡ take (4 * kept) (drop from old) ++ take (4 * more) (drop place extra)
+  pub inside : StockInside old extra from kept place more
+
+-- the marking m is held: of each object node its stock, of each action its running byte, of each edge with a count the count.
+-- Where `extra` is [] nothing comes
+pub record MarkingHeld (t : List ℕ) (m : Marking) (old extra : List ℕ) (x : Held) : Type 0 where
+  pub stocks : (i : ℕ) → i < nodes t → isObjectNode (kind t i) ≡ true
+      → StockHeld (m .stock i) old extra (at (x .from) i) (at (x .kept) i) (at (x .place) i) (at (x .more) i)
+  pub running : (i : ℕ) → i < nodes t → isAction (kind t i) ≡ true → at (x .runs) i ≡ oneIf (m .runs i)
+  pub counts : (j : ℕ) → j < edges t → counted t j ≡ true → at (x .tokens) j ≡ m .tokens j
+
+-- what is to be written stands in the bytes that it is taken from, whatever marking that is
+pub record HeldInside (t old extra : List ℕ) (x : Held) : Type 0 where
+  pub stock : (i : ℕ) → i < nodes t → isObjectNode (kind t i) ≡ true
+      → StockInside old extra (at (x .from) i) (at (x .kept) i) (at (x .place) i) (at (x .more) i)
+
+-- the arrays have the lengths that they are declared with, which their types as lists don't say
+pub record HeldLengths (x : Held) : Type 0 where
+  pub from-long : length (x .from) ≡ 48
+  pub kept-long : length (x .kept) ≡ 48
+  pub place-long : length (x .place) ≡ 48
+  pub more-long : length (x .more) ≡ 48
+  pub runs-long : length (x .runs) ≡ 48
+  pub tokens-long : length (x .tokens) ≡ 64
+
+pub record NothingHeld (x : Held) : Type 0 where
+  pub lengths : HeldLengths x
+  pub no-from : Blank (x .from)
+  pub no-kept : Blank (x .kept)
+  pub no-place : Blank (x .place)
+  pub no-more : Blank (x .more)
+  pub no-runs : Blank (x .runs)
+  pub no-tokens : Blank (x .tokens)
+
+-- a live marking was read from the bytes b, and is held; nothing comes
+pub record LiveMarking (t b : List ℕ) (x : Held) : Type 0 where
+  pub current : Marking
+  pub is-read : marking t b ≡ some current
+  pub live : current .ended ≡ false
+  pub held : MarkingHeld t current b [] x
+  pub lengths : HeldLengths x
+
+-- ---- reading
+-- the first n places, those that two bytes say, are the same
+pub record Narrowed (wide narrow : List ℕ) (n : ℕ) : Type 0 where
+  pub long : length narrow ≡ 48
+  pub same : (i : ℕ) → i < n → at wide i < 65536 → at narrow i ≡ at wide i
+
+-- y holds what stands at the places of the first n nodes, and of x what comes
+pub record NodesHeldIn (b fields : List ℕ) (n : ℕ) (x y : Held) : Type 0 where
+  pub lengths : HeldLengths y
+  pub same-place : y .place ≡ x .place
+  pub same-more : y .more ≡ x .more
+  pub nodes-held : (t : List ℕ) (m : Marking) → length b < 65536 → NodesNoted t m b fields n → NodesHeld t m b (y .from) (y .kept) (y .runs) n
+
+-- y holds the counts that stand at the places of the first n edges, and of x the nodes
+pub record EdgesHeldIn (b places : List ℕ) (n : ℕ) (x y : Held) : Type 0 where
+  pub lengths : HeldLengths y
+  pub same-from : y .from ≡ x .from
+  pub same-kept : y .kept ≡ x .kept
+  pub same-place : y .place ≡ x .place
+  pub same-more : y .more ≡ x .more
+  pub same-runs : y .runs ≡ x .runs
+  pub edges-held : (t : List ℕ) (m : Marking) → EdgesNoted t m b places n → EdgesHeld t (m .tokens) (y .tokens) n
+
+-- row 5, and what a marking that was read holds
+abbrev pub ReadUp : List ℕ → List ℕ → Option Marking → HeldAnswer → Type 0
+ReadUp t b none r = said (r .answer) ≡ refused 5 0
+ReadUp t b (some m) r = (said (r .answer) ≡ good (m .ended)) × MarkingHeld t m b [] (r .held)

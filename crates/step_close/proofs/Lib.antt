@@ -1,0 +1,2 @@
+-- Laws of a marking that is ended.
+pub mod Clearing

@@ -1,0 +1,36 @@
+-- The edges into each node as lists in two arrays: `first` has the first edge of each node, `next` behind each edge the one after it into the same
+-- node. A number that is no edge's ends a list. Assumes nothing.
+use Prim.Native.Nat.{ℕ, _≤_, _<_}
+use mathlib.Core.Path.{_≡_}
+use mathlib.Core.List.{List, [], _∷_}
+use lib.ListN.{length, getD}
+use Rattle.paper.specs.Limits.{limits}
+use Rattle.paper.specs.Table.{nodes, edges, target, into}
+use Rattle.table.specs.Reading.{Spans}
+use Rattle.table.specs.declared.Table.{Table}
+
+-- from j on, the list has the edges js
+abbrev pub ListFrom : List ℕ → ℕ → List ℕ → Type 0
+ListFrom next j [] = limits .mostEdges ≤ j
+ListFrom next j (i ∷ is) = ((j ≡ i) × (j < limits .mostEdges)) × ListFrom next (getD next j 0) is
+
+-- what stands behind an edge is higher, so every list ends
+abbrev pub Forward : List ℕ → Type 0
+Forward next = (j : ℕ) → j < limits .mostEdges → j < getD next j 0
+
+-- the lists are those of the table
+pub record Incoming (t first next : List ℕ) : Type 0 where
+  pub forward : Forward next
+  pub lists : (i : ℕ) → i < nodes t → ListFrom next (getD first i 0) (into t i)
+
+-- room for n entries, and nothing listed yet
+pub record Unlisted (n : ℕ) (xs : List ℕ) : Type 0 where
+  pub room : n ≤ length xs
+  pub no-edges : (i : ℕ) → i < n → getD xs i 0 ≡ 255
+
+-- a table whose edges lead to nodes, and room for its lists
+pub record Listable (t : List ℕ) (x : Table) (first next : List ℕ) : Type 0 where
+  pub spans : Spans t x
+  pub targets : (j : ℕ) → j < edges t → target t j < nodes t
+  pub firsts-blank : Unlisted (limits .mostNodes) first
+  pub nexts-blank : Unlisted (limits .mostEdges) next
