@@ -4,7 +4,9 @@ use mathlib.Core.List.{List}
 use Prim.Native.Nat.{ℕ}
 use native.Mathlib.Omega.{arith}
 use lib.ListN.{length}
+use Rattle.paper.specs.Answers.{good}
 use Rattle.paper.specs.Offers.{Terms}
+use Rattle.paper.specs.Choices.{board}
 use Rattle.paper.proofs.Boards.{board-good}
 use Rattle.paper.proofs.Bytes.{Bytes}
 use Rattle.paper.proofs.OneMarking.{read-is-good, encode-fits}
@@ -15,12 +17,10 @@ use Rattle.marking_held.specs.declared.Held.{Held}
 use Rattle.board.specs.Reading.{Seats, Laid}
 use Rattle.board.proofs.BoardLaws.{laid-stands}
 use Rattle.step.specs.Stepping.{Standing}
-use Rattle.keshmirun.specs.declared.asking.Request.{Request}
-use Rattle.keshmirun.specs.Asking.{Responds, Stood}
 
 module _ {t b : List ℕ} {w : Terms} {o : Offers} {x : Held} {s : Seats} {n : ℕ} (l : Laid t b w o x s n) (u : Bytes b)
     (e : Ends) (count-is : e .count ≡ n) (h : EndsSeated t (o .last) (o .makers) (o .foes) (s .ends) e) where
-  laid-standing : Standing t b o e x
+  pub laid-standing : Standing t b o e x
   laid-standing =
       let f = board-good t b w (l .on) (l .is-board) in
       let r = read-is-good t b (l .on .current) u (f .is-read) in
@@ -32,12 +32,7 @@ module _ {t b : List ℕ} {w : Terms} {o : Offers} {x : Held} {s : Seats} {n : �
         held-as = l .held-as;
       }
 
-  pub laid-stood : Stood t b o e x
+  -- it is the board that was read
+  pub standing-board : board t b w ≡ good (laid-standing .on)
   unfolding laid-standing
-  laid-stood = record { under = w; standing = laid-standing; is-board = l .is-board }
-
-  -- what is said of every board that stood there is said under these terms
-  pub stood-responds : (q : Request) (ks : List ℕ) (word : ℕ) (out after : List ℕ)
-      → ((y : Stood t b o e x) → Responds q t b (y .under) ks word out after) → Responds q t b w ks word out after
-  unfolding laid-stood
-  stood-responds q ks word out after r = r laid-stood
+  standing-board = l .is-board

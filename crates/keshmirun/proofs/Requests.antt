@@ -7,7 +7,7 @@ use lib.ListN.{length}
 use Rattle.paper.specs.Answers.{refused, good}
 use Rattle.paper.specs.Offers.{Terms}
 use Rattle.paper.specs.Choices.{board}
-use Rattle.paper.specs.Operations.{sheet, step, PickOn, Pick, WhyIf, Why, packed, inRoom, Reply, Leaves, Only}
+use Rattle.paper.specs.Operations.{sheet, step, PickOn, Pick, WhyIf, Why, packed, inRoom, Reply, Leaves}
 use Rattle.table.specs.Reading.{tableRead}
 use Rattle.offers.specs.declared.Offers.{Offers}
 use Rattle.marking_held.specs.declared.Held.{Held}
@@ -18,13 +18,14 @@ use Rattle.sheet_write.proofs.Meaning.{sheet-shown, listed-measured}
 use Rattle.ends_masks.specs.declared.Ends.{Ends}
 use Rattle.step.specs.Stepping.{chosen, Standing}
 use Rattle.keshmirun.specs.declared.asking.Request.{Request}
-use Rattle.keshmirun.specs.declared.asking.Request.the-variants.{Pick as PickFor, Why as WhyFor, Step, Count}
+use Rattle.keshmirun.specs.declared.asking.Request.the-variants.{Sheet, Pick as PickFor, Why as WhyFor, Step, Count}
 use Rattle.keshmirun.specs.Asking.{Counted, Responds}
 
 module _ (t b : List ℕ) (w : Terms) (ks : List ℕ) where
   -- ---- rows 1 to 8, and 18
   pub asked-refused : (q : Request) (n p word : ℕ) (out : List ℕ) → board t b w ≡ refused n p → word ≡ packed n p 0 → Responds q t b w ks word out out
-  unfolding Pick Why step Counted
+  unfolding sheet Pick Why step Counted
+  asked-refused Sheet n p word out e h = record { answer = refused n p; allowed = sym (rw e); reply = (h, refl) }
   asked-refused (PickFor i) n p word out e h = record { answer = refused n p; allowed = rw e refl; reply = (h, refl) }
   asked-refused (WhyFor i) n p word out e h = record { answer = refused n p; allowed = rw e refl; reply = (h, refl) }
   asked-refused Step n p word out e h = record { answer = refused n p; allowed = sym (rw e); reply = (h, refl) }
@@ -52,21 +53,17 @@ module _ (t b : List ℕ) (w : Terms) (ks : List ℕ) where
     count-leaves i k f h = rw f (rw (is-board, ← y .stands .seated .number) h, refl)
 
 -- ---- a sheet
-pub sheet-refused : (t b : List ℕ) (w : Terms) (n p word : ℕ) (out : List ℕ) → board t b w ≡ refused n p → word ≡ packed n p 0 → Leaves (Only (sheet t b w)) word out out
-unfolding sheet
-sheet-refused t b w n p word out e h = record { answer = refused n p; allowed = sym (rw e); reply = (h, refl) }
-
 module _ {t b : List ℕ} {w : Terms} {o : Offers} {x : Held} {s : Seats} {n : ℕ} (l : Laid t b w o x s n) (r : SeatsRoom s) where
-  pub sheet-leaves : (word : ℕ) (out after : List ℕ)
+  pub sheet-leaves : (ks : List ℕ) (q : Request) (word : ℕ) (out after : List ℕ) → q ≡ Sheet
       → Reply (inRoom (length out) (good (sheetShown (o .last) (o .has) (o .value) (o .paths) (s .ends) (s .order) (s .lens) (s .cells) n))) word out after
-      → Leaves (Only (sheet t b w)) word out after
+      → Responds q t b w ks word out after
   unfolding sheet
-  sheet-leaves word out after h = record {
+  sheet-leaves ks q word out after e h = rw e (record {
     answer = good (sheetShown (o .last) (o .has) (o .value) (o .paths) (s .ends) (s .order) (s .lens) (s .cells) n);
     allowed =
         sym (rw (l .is-board, sheet-shown t o (l .links) (l .trees) (l .on .allEnds) (s .ends) (s .order) (s .lens) (s .cells) n (r .cells-room) (l .holds-ts) (l .listed)));
     reply = h;
-  }
+  })
 
   pub laid-shows : Shows (o .last) (o .has) (o .value) (o .paths) (s .ends) (s .order) (s .lens) (s .cells) n
   laid-shows = record {

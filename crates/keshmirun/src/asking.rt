@@ -1,6 +1,5 @@
-// What is asked about a board: the sheet, or what choices there are on it and what they come to. How far a search goes is asked here too.
+// What is asked about a board, by sheet, pick, why and step: the board is read once, for whichever of them asks. How far a search goes is asked here too.
 // The table's bytes were read as a table.
-use board::Board;
 use ends::EndsAnswer;
 use ends_masks::Ends;
 use offers::Offers;
@@ -10,47 +9,18 @@ ghost use Prim.Native.Nat.{ℕ, _≤_, _<_};
 ghost use Rattle.paper.specs.Lists.{at};
 ghost use Rattle.paper.specs.Answers.{good};
 ghost use Rattle.paper.specs.Offers.{terms};
-ghost use Rattle.paper.specs.Operations.{Leaves, Only, sheet as shown};
 ghost use Rattle.table.specs.Reading.{tableRead};
 ghost use Rattle.offers.specs.Struct.{Full};
 ghost use Rattle.ends_masks.specs.Seating.{Rowed, EndsFull, EndsSeated};
-ghost use Rattle.marking_held.specs.MarkingHeld.{HeldLengths};
-ghost use Rattle.keshmirun.specs.Asking.{Responds, Stood};
+ghost use Rattle.keshmirun.specs.Asking.{Responds};
 
-// The pick for a node, the reason for a node, the step by a choice, or how many states the search for a node visits, k levels past the first.
+// The sheet, the pick for a node, the reason for a node, the step by a choice, or how many states the search for a node visits, k levels past the first.
 pub enum Request {
+    Sheet,
     Pick(u8),
     Why(u8),
     Step,
     Count(u8, usize),
-}
-
-// The sheet of a marking, guards and bounds.
-pub fn sheet(t: &[u8], table: Table, b: &[u8], g: &[u8], bounds: &[u8], out: &mut [u8]) -> u64
-    requires { ⌜ tableRead (now t) ≡ good table ⌝ }
-    ensures { λ r. ⌜ Leaves (Only (shown (now (t .entry)) (now (b .entry)) (terms (now (g .entry)) (now (bounds .entry))))) r (now (out .entry)) (now (out .exit)) ⌝ }
-{
-    let mut ends = [0u8; offers::MOST_ENDS];
-    let mut order = [0u8; ends_paths::BLOCKS];
-    let mut lens = [0u8; ends_paths::BLOCKS];
-    let mut cells = [0u8; ends_paths::CELLS];
-    let board = board::read(
-        t,
-        table,
-        b,
-        g,
-        bounds,
-        &mut ends,
-        &mut order,
-        &mut lens,
-        &mut cells,
-    );
-    let answer = board.answer;
-    let n = match answer {
-        EndsAnswer::Good(n) => n,
-        EndsAnswer::Refused(number, place) => return wire::pack(number, place, 0),
-    };
-    sheet_write::show(board.offers, &ends, &order, &lens, &cells, n, out)
 }
 
 // The n ends that are these rows of the offers, by value.
@@ -62,30 +32,6 @@ fn seated(t: &[u8], table: Table, offers: Offers, ends: &[u8], n: usize) -> Ends
     let makers = offers.makers;
     let foes = offers.foes;
     ends_masks::seat(t, table, &last, &makers, &foes, ends, n)
-}
-
-// The request answered on a board.
-fn respond(
-    t: &[u8],
-    table: Table,
-    b: &[u8],
-    request: Request,
-    choice: &[u8],
-    board: Board,
-    ends: Ends,
-    out: &mut [u8],
-) -> u64
-    requires { ⌜ (tableRead (now t) ≡ good table) × Full (board .offers) × EndsFull ends × HeldLengths (board .held) × Stood (now t) (now b) (board .offers) ends (board .held) ⌝ }
-    ensures { λ r. ⌜ ((y : Stood (now (t .entry)) (now (b .entry)) (board .offers) ends (board .held)) → Responds request (now (t .entry)) (now (b .entry)) (y .under) (now (choice .entry)) r (now (out .entry)) (now (out .exit))) ⌝ }
-{
-    match request {
-        Request::Pick(node) => pick::pick(t, table, board.offers, ends, board.held, node, out),
-        Request::Why(node) => why::why(t, table, board.offers, ends, board.held, node, out),
-        Request::Step => step::step(t, table, b, choice, board.offers, ends, board.held, out),
-        Request::Count(node, k) => {
-            why::states(t, table, board.offers, ends, board.held, node, k) as u64
-        }
-    }
 }
 
 // The board of a marking, guards and bounds is read, and the request answered.
@@ -122,6 +68,23 @@ pub fn ask(
         EndsAnswer::Good(n) => n,
         EndsAnswer::Refused(number, place) => return wire::pack(number, place, 0),
     };
-    let ends = seated(t, table, board.offers, &rows, n);
-    respond(t, table, b, request, choice, board, ends, out)
+    match request {
+        Request::Sheet => sheet_write::show(board.offers, &rows, &order, &lens, &cells, n, out),
+        Request::Pick(node) => {
+            let ends = seated(t, table, board.offers, &rows, n);
+            pick::pick(t, table, board.offers, ends, board.held, node, out)
+        }
+        Request::Why(node) => {
+            let ends = seated(t, table, board.offers, &rows, n);
+            why::why(t, table, board.offers, ends, board.held, node, out)
+        }
+        Request::Step => {
+            let ends = seated(t, table, board.offers, &rows, n);
+            step::step(t, table, b, choice, board.offers, ends, board.held, out)
+        }
+        Request::Count(node, k) => {
+            let ends = seated(t, table, board.offers, &rows, n);
+            why::states(t, table, board.offers, ends, board.held, node, k) as u64
+        }
+    }
 }

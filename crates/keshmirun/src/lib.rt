@@ -62,7 +62,7 @@ pub extern "C" fn sheet(
         TableAnswer::Good(x) => x,
         TableAnswer::Refused(number, place) => return wire::pack(number, place, 0),
     };
-    asking::sheet(table, x, marking, guards, bounds, out)
+    ask(table, x, marking, guards, bounds, Request::Sheet, b"", out)
 }
 
 // The first acceptable choice, or the first that has an end of the named node; 255 names none.

@@ -1,17 +1,13 @@
--- `sheet`: the refusals of the table, then the sheet of the board. Assumes nothing.
+-- `sheet`: the table's refusals, then what is asked of the board. Assumes nothing.
 use mathlib.Core.Path.{sym, ap, _∙_}
+use mathlib.Core.List.{[]}
 use Rattle.paper.specs.Offers.{terms}
 use Rattle.table.specs.Reading.{said}
-use Rattle.board.proofs.BoardLaws.{board-refused}
-use Rattle.keshmirun.proofs.Requests.{sheet-refused}
+use Rattle.keshmirun.specs.declared.asking.Request.the-variants.{Sheet}
+use Rattle.keshmirun.proofs.Requests.{table-refused}
 use borrow.Author.Needs.{needs}
 use Rattle.keshmirun.proofs.sheet.Statement.{statement}
 use Rattle.keshmirun.proofs.sheet.Tie as tie
-use Rattle.keshmirun.proofs.sheet.Reads as reads
-use Rattle.keshmirun.proofs.sheet.Lts as lts
-use Rattle.keshmirun.proofs.asking.sheet.Reads as sheet-reads
-use Rattle.table_read.proofs.read.Reads as read-reads
-use Rattle.wire.proofs.pack.Reads as pack-reads
 
 read-requires : tie.Need-read-requires
 read-requires c κs = search needs
@@ -26,14 +22,14 @@ pack-requires : tie.Need-pack-requires
 pack-requires c κs = search needs
 
 returns : tie.Need-returns
-returns c =
-    let a = c .before .before .before .before .before .before .before .before .before .before .args in
-    let w = terms (a .guards .now) (a .bounds .now) in
-    let e = sym (c .before .before .before .before .read .ensures) ∙ ap said (c .before .before .number .given .1) in
-    sheet-refused (a .table .now) (a .marking .now) w _ _ (c .pack .result) (a .out .now) (board-refused (a .table .now) (a .marking .now) w _ _ e) (c .pack .ensures)
+returns c = let a = c .before .before .before .before .before .before .before .before .before .before .args in
+    table-refused (a .table .now) (a .marking .now) (terms (a .guards .now) (a .bounds .now)) [] Sheet _ _ (c .pack .result) (a .out .now) (sym (c .before .before .before .before .read .ensures) ∙ ap said (c .before .before .number .given .1)) (c .pack .ensures)
 
-sheet-requires : tie.Need-sheet-requires
-sheet-requires c κs = sym (c .before .before .before .before .read .ensures) ∙ ap said (c .before .before .x .given .1)
+slice-aggregate-ask : tie.Need-slice-aggregate-ask
+slice-aggregate-ask c = search needs
+
+ask-requires : tie.Need-ask-requires
+ask-requires c κs = sym (c .before .before .before .before .before .read .ensures) ∙ ap said (c .before .before .before .x .given .1)
 
 same-length : tie.Need-same-length
 same-length c = search needs
@@ -50,6 +46,7 @@ sheet-spec =
     enum-known-number
     pack-requires
     returns
-    sheet-requires
+    slice-aggregate-ask
+    ask-requires
     same-length
     returns-2)
