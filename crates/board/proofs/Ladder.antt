@@ -20,23 +20,21 @@ use Rattle.table.specs.declared.Table.{Table}
 use Rattle.table.specs.Reading.{tableRead}
 use Rattle.table.proofs.Reading.{read-fine, read-good}
 use Rattle.marking.specs.declared.reading.MarkingAnswer.the-variants.{Ended, Refused as NoMarking}
-use Rattle.offers.specs.Rows.{Rows, fine}
+use Rattle.offers.specs.Rows.{Rows, rowsIn, fine}
 use Rattle.terms.specs.Terms.{termsFine, Ties}
 use Rattle.terms.proofs.TermLaws.{terms-fine}
 use Rattle.terms.proofs.GuardLaws.{guards-long}
 use Rattle.offers_all.specs.Stages.{Gates, Input, Whole, onEdge}
-use Rattle.offers.specs.Struct.{rowsOf, Full}
 use Rattle.offers_all.proofs.Inputs.{good-flat}
 use Rattle.marking_held.specs.declared.Held.{Held}
 use Rattle.marking_held.specs.declared.HeldAnswer.{HeldAnswer}
 use Rattle.marking_held.specs.MarkingHeld.{MarkingHeld, LiveMarking, ReadUp}
-use Rattle.marking_held.proofs.HeldLaws.{refused-up, ended-up, held-nodes, held-edges}
+use Rattle.marking_held.proofs.HeldLaws.{refused-up, ended-up}
 use Rattle.ends.specs.declared.EndsAnswer.{EndsAnswer}
 use Rattle.ends.specs.declared.EndsAnswer.the-variants.{Good, Refused}
 use Rattle.ends.specs.Ends.{Listed, Arranged}
-use Rattle.offers.specs.declared.Offers.{Offers}
 use Rattle.board.specs.Starts.{Begun}
-use Rattle.board.specs.Reading.{Seats, Laid, BoardRead}
+use Rattle.board.specs.Reading.{EndsLent, Laid, BoardLaid}
 use Rattle.board.proofs.StartLaws.{starts-are}
 
 -- ---- the ladder
@@ -112,30 +110,25 @@ module _ (t b g x : List ℕ) {k : Table} (e : tableRead t ≡ good k) where
           (λ h. let k = in-gather (onEdge t (goesOver w) (l .current)) (z .order) (elem-in _ h) in in-elem (gather-in (onEdge t (goesOver w) (l .current)) (below-in (edges t) (z .only-edges (k .0) (k .1))) (k .2)))
           (λ h. let k = in-gather (onEdge t (goesOver w) (l .current)) (below (edges t)) (elem-in _ h) in in-elem (gather-in (onEdge t (goesOver w) (l .current)) (z .all-edges (k .0) (in-below (edges t) (k .1))) (k .2)))
 
-      pub board-laid : (o : Offers) (links : List ℕ) → Full o → (z : Seats) (n : ℕ) (a c : List ℕ) (h : Whole t (l .current) (goesOver w) (rowsOf o links) a c)
-          → Listed (gather (onEdge t (goesOver w) (l .current)) (h .order)) (ends t os) (z .ends) (z .order) (z .lens) (z .cells) n → Laid t b w o y z n
-      board-laid o links full z n a c h s = record {
-        on = theBoard;
-        trees = gather (onEdge t (goesOver w) (l .current)) (h .order);
-        is-board = board-is (h .sizes) (rw (s .number) at (s .few));
-        full = full;
-        links = links;
-        table-is = refl;
-        holds-ts = h .holds-ts;
-        offers-are = same-offers (rowsOf o links) a c h;
-        listed = s;
-        held-as = l .held;
-      }
+      module _ (show : Bool) (m : List ℕ) (count : ℕ) (z : EndsLent) (a c : List ℕ) (h : Whole t (l .current) (goesOver w) (rowsIn m count) a c) where
+        pub board-laid : (n : ℕ) → Listed (gather (onEdge t (goesOver w) (l .current)) (h .order)) (ends t os) show (z .ends) (z .order) (z .lens) (z .cells) n
+            → Laid show t b w y m count z n
+        board-laid n s = record {
+          on = theBoard;
+          trees = gather (onEdge t (goesOver w) (l .current)) (h .order);
+          is-board = board-is (h .sizes) (rw (s .number) at (s .few));
+          table-is = refl;
+          holds-ts = h .holds-ts;
+          offers-are = same-offers (rowsIn m count) a c h;
+          listed = s;
+          held-as = l .held;
+        }
 
-      -- the ends' answer is the board's
-      pub board-read : (o : Offers) (links : List ℕ) → Full o → (z : Seats) (r : EndsAnswer) (a c : List ℕ) (h : Whole t (l .current) (goesOver w) (rowsOf o links) a c)
-          → Arranged r (gather (onEdge t (goesOver w) (l .current)) (h .order)) (ends t os) (z .ends) (z .order) (z .lens) (z .cells) → BoardRead t b w o y z r
-      board-read o links full z (Good n) a c h s = board-laid o links full z n a c h s
-      board-read o links full z (Refused n p) a c h s = rw (s .0, s .1 .0) (board-8-ends (s .1 .1))
-
--- a refusal is the board's
-pub refused-board : (t b : List ℕ) (w : Terms) (o : Offers) (y : Held) (z : Seats) (r : EndsAnswer) (n p : ℕ) → r ≡ Refused n p → board t b w ≡ refused n p → BoardRead t b w o y z r
-refused-board t b w o y z r n p e h = rw e h
+        -- the ends' answer is the board's
+        pub board-arranged : (r : EndsAnswer) → Arranged r (gather (onEdge t (goesOver w) (l .current)) (h .order)) (ends t os) show (z .ends) (z .order) (z .lens) (z .cells)
+            → BoardLaid show t b w y m count z r
+        board-arranged (Good n) s = board-laid n s
+        board-arranged (Refused n p) s = rw (s .0, s .1 .0) (board-8-ends (s .1 .1))
 
 -- ---- what the builder is handed
 pub begun-input : (t b : List ℕ) {x : Table} → tableRead t ≡ good x → (y : Held) (codes values : List ℕ) (m : Marking) → GoodMarking t m → MarkingHeld t m b [] y
@@ -144,7 +137,7 @@ begun-input t b e y codes values m ok h f goes g z ties = record {
   ties = ties;
   one-value = λ j l d free. joined-passes t goes m (read-fine t e) (limits .longestPath) j l d (goes j) free;
   flat = good-flat t e;
-  starts = λ j l c. starts-are t b (y .from) (y .kept) (y .tokens) codes values (y .runs) m ok (held-nodes h) (held-edges h) f j l (read-good t e .edge j l .source-fits);
+  starts = λ j l c. starts-are t b y codes values m ok h f j l (read-good t e .edge j l .source-fits);
 }
 
 -- fine guards and a fine list stand for what goes over the edges, and there is a guard for each

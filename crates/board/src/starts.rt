@@ -30,20 +30,24 @@ fn start_code(t: &[u8], table: Table, kept: &[u8], tokens: &[u8], e: usize) -> u
     requires { ⌜ (tableRead (now t) ≡ good table) × (e < table .edges) × (table .nodes ≤ length (now kept)) × (table .edges ≤ length (now tokens)) ⌝ }
     ensures { λ r. ⌜ r ≡ startCode (now (t .entry)) (now (kept .entry)) (now (tokens .entry)) e ⌝ }
 {
-    if has_count(t, table, e) {
-        if tokens[e] == 0 {
+    let s = table.source(t, e);
+    let k = table.kind(t, s);
+    if table::is_control_node(k) {
+        return 0;
+    }
+    if table::is_object_node(k) {
+        if kept[s] == 0 {
             return 0;
         }
-        return 1;
+        return 2;
     }
-    let s = table.source(t, e);
-    if !table::is_object_node(table.kind(t, s)) {
+    if !has_count(t, table, e) {
         return 0;
     }
-    if kept[s] == 0 {
+    if tokens[e] == 0 {
         return 0;
     }
-    2
+    1
 }
 
 // The first offers of all edges, where `held` says what the marking b holds.

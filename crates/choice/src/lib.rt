@@ -8,6 +8,7 @@ ghost use Rattle.paper.specs.Lists.{has};
 ghost use Rattle.paper.specs.Answers.{good};
 ghost use Rattle.paper.specs.Operations.{inRoom, Reply};
 ghost use Rattle.choice.specs.Choice.{said, choiceRead, numbers};
+ghost use Rattle.paper.specs.Limits.{limits};
 
 // The set that was read, or the refusal's number and its place.
 pub enum ChoiceAnswer {
@@ -25,7 +26,7 @@ pub fn is_taken(c: u32, k: usize) -> bool
 
 // The bytes as a choice among n ends (row 9).
 pub fn read_choice(ks: &[u8], n: usize) -> ChoiceAnswer
-    requires { ⌜ n ≤ 20 ⌝ }
+    requires { ⌜ n ≤ limits .mostEnds ⌝ }
     ensures { λ r. ⌜ said r ≡ choiceRead (now (ks .entry)) n ⌝ }
 {
     let mut c: u32 = 0;
@@ -49,7 +50,7 @@ pub fn read_choice(ks: &[u8], n: usize) -> ChoiceAnswer
 
 // How many of n ends are taken: the bytes that the choice takes.
 fn choice_size(c: u32, n: usize) -> usize
-    requires { ⌜ n ≤ 20 ⌝ }
+    requires { ⌜ n ≤ limits .mostEnds ⌝ }
     ensures { λ r. ⌜ (r ≡ length (numbers c n)) × (r ≤ n) ⌝ }
 {
     let mut many: usize = 0;
@@ -65,7 +66,7 @@ fn choice_size(c: u32, n: usize) -> usize
 
 // The numbers of the taken ends, at the front of `out`. What stands behind them is left as it was.
 fn write_choice(c: u32, n: usize, out: &mut [u8])
-    requires { ⌜ (n ≤ 20) × (length (numbers c n) ≤ length (now out)) ⌝ }
+    requires { ⌜ (n ≤ limits .mostEnds) × (length (numbers c n) ≤ length (now out)) ⌝ }
     ensures { λ _. ⌜ now (out .exit) ≡ numbers c n ++ drop (length (numbers c n)) (now (out .entry)) ⌝ }
 {
     let mut to: usize = 0;
@@ -81,7 +82,7 @@ fn write_choice(c: u32, n: usize, out: &mut [u8])
 
 // The choice c of n ends, if the room is enough (row 17).
 pub fn tell(c: u32, n: usize, out: &mut [u8]) -> u64
-    requires { ⌜ n ≤ 20 ⌝ }
+    requires { ⌜ n ≤ limits .mostEnds ⌝ }
     ensures { λ r. ⌜ Reply (inRoom (length (now (out .entry))) (good (numbers c n))) r (now (out .entry)) (now (out .exit)) ⌝ }
 {
     let len = choice_size(c, n);

@@ -1,5 +1,6 @@
 -- Laws of judging.
 pub mod Masks
 pub mod Parted
+pub mod Starting
 pub mod Unfit
 pub mod Meaning

@@ -17,9 +17,8 @@ use Rattle.paper.proofs.Lists.{lowest-none, lowest-some}
 use Rattle.paper.proofs.Counts.{count-below-same, count-most}
 use Rattle.paper.proofs.Members.{any-in, in-any, below-in, in-below}
 use Rattle.words.proofs.Ones.{ones-both, some-both}
-use Rattle.offers.specs.Sets.{Marks, meets}
-use Rattle.choice_masks.specs.Masks.{Owned}
-use Rattle.ends_masks.specs.Seating.{rival, rivalled, apart, siblings, makes, kept, passed, forks, seats, served}
+use Rattle.offers.specs.Sets.{Marks, wordsClash}
+use Rattle.ends_masks.specs.Seating.{rival, rivalled, firstRivalled, siblings, makes, kept, passed, forks, seats}
 use Rattle.ends_masks.proofs.Numbers.{any-below-alike, all-below-alike, lowest-alike}
 use Rattle.choice_judge.specs.Judging.{keptIn, passedIn, forksIn}
 
@@ -42,10 +41,6 @@ ones-few w c l = rw (ones-both 32 w c l) (count-most (λ k. has w k && has c k) 
 pub seats-mask : (column : List ℕ) (n c x w : ℕ) → Marks (λ k. eqb (at column k) x) n w → ones (bitAnd w c) ≡ seats column n c x
 unfolding seats
 seats-mask column n c x w m = counted c m
-
-pub served-mask : (target home : List ℕ) (n c i w : ℕ) → Owned target home n i w → not (eqb (bitAnd w c) 0) ≡ served target home n c i
-unfolding served
-served-mask target home n c i w m = met c m
 
 pub rivalled-mask : (foes makers : List ℕ) (n c k w : ℕ) → Marks (rival foes makers k) n w → not (eqb (bitAnd w c) 0) ≡ rivalled foes makers n c k
 unfolding rivalled
@@ -76,24 +71,24 @@ module _ (node parents makers : List ℕ) (rows n c w : ℕ) (h : (y : ℕ) → 
 -- ---- the lowest place
 module _ (foes makers : List ℕ) (n c : ℕ) where
   pub apart-at : (k : ℕ) → ((j : ℕ) → j < k → has c j && rivalled foes makers n c j ≡ false) → has c k && rivalled foes makers n c k ≡ true
-      → k < n → apart foes makers n c ≡ some k
-  unfolding apart
+      → k < n → firstRivalled foes makers n c ≡ some k
+  unfolding firstRivalled
   apart-at k h e l = lowest-some (λ k. has c k && rivalled foes makers n c k) n k h e l
 
-  pub apart-nowhere : ((j : ℕ) → j < n → has c j && rivalled foes makers n c j ≡ false) → apart foes makers n c ≡ none
-  unfolding apart
+  pub apart-nowhere : ((j : ℕ) → j < n → has c j && rivalled foes makers n c j ≡ false) → firstRivalled foes makers n c ≡ none
+  unfolding firstRivalled
   apart-nowhere h = lowest-none (λ k. has c k && rivalled foes makers n c k) n h
 
 -- where the word f of the foes of taken ends and the word w of their makers have nothing in common, none competes
 pub apart-by-words : (foes makers : List ℕ) (n c f w : ℕ) → ((y : ℕ) → has f y ≡ makes foes n c y) → ((y : ℕ) → has w y ≡ makes makers n c y)
-    → ((k : ℕ) → k < n → at foes k < 2 ^ 64) → bitAnd f w ≡ 0 → apart foes makers n c ≡ none
+    → ((k : ℕ) → k < n → at foes k < 2 ^ 64) → bitAnd f w ≡ 0 → firstRivalled foes makers n c ≡ none
 unfolding makes rivalled
 apart-by-words foes makers n c f w hf hw small e =
     apart-nowhere foes makers n c (λ j l. false-if (has c j && rivalled foes makers n c j) (λ q.
     let a = and-true (has c j) (rivalled foes makers n c j) q in
     let r = any-in (λ k. has c k && rival foes makers j k) (below n) (a .1) in
     let b = and-true (has c (r .0)) (rival foes makers j (r .0)) (r .2) in
-    let m = and-true (not (eqb (r .0) j)) (meets (at foes j) (at makers j) (at foes (r .0)) (at makers (r .0))) (b .1) in
+    let m = and-true (not (eqb (r .0) j)) (wordsClash (at foes j) (at makers j) (at foes (r .0)) (at makers (r .0))) (b .1) in
     ⊎-elim (λ z. hit j (r .0) l (in-below n (r .1)) (a .0) (b .0) z) (λ z. hit (r .0) j (in-below n (r .1)) l (b .0) (a .0) z)
     (or-true (not (eqb (bitAnd (at foes j) (at makers (r .0))) 0)) (not (eqb (bitAnd (at foes (r .0)) (at makers j)) 0)) (m .1))))
   where

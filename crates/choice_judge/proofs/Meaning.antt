@@ -14,4 +14,4 @@ pub judged-rows : (t : List ℕ) (d : Board) (o : Offers) (e : Ends) (runs stock
     → judgedBy (rowRules t o e runs stock) c ≡ judgedBy (rules d) c
 judged-rows t d o e runs stock c s =
     let z = s .seated in
-    sym (rw (rule1-rows t d o (s .links) (s .trees) e c z, rule2-rows t d o (s .links) (s .trees) e c z, rule3-rows t d o (s .links) (s .trees) e c z runs stock (s .told)))
+    sym (rw (rule1-rows t d o (s .beside) (s .trees) e c z, rule2-rows t d o (s .beside) (s .trees) e c z, rule3-rows t d o (s .beside) (s .trees) e c z runs stock (s .told)))

@@ -5,6 +5,7 @@ use mathlib.Core.List.{List, [], _∷_}
 use Prim.Native.Nat.{ℕ, _+_, _≤_, _<_}
 use native.Mathlib.Omega.{arith}
 use lib.Dec.{leb, ltb, eqb}
+use lib.ListN.{length}
 use borrow.Author.Tests.{eqb-true, leb-true, leb-false, le-leb, lt-leb, lt-ltb, le-ltb}
 use Rattle.paper.specs.Lists.{at, below, all, any, keep, lowest, within, oneIf, _⇒_}
 use Rattle.paper.specs.Table.{nodes, edges, kind, owner, lower, upper, target as targetOf, into, inputs, isAction, isInput, isBuffer, isOutgoing}
@@ -14,12 +15,11 @@ use Rattle.words.specs.Marks.{MarksOf, isMarked, placed}
 use Rattle.words.proofs.Marks.{mark-test}
 use Rattle.table.specs.Reading.{Spans}
 use Rattle.table.specs.declared.Table.{Table}
-use Rattle.choice_masks.specs.Masks.{Masks}
-use Rattle.choice_masks.proofs.Masking.{at-edge, at-target, at-both}
+use Rattle.choice_masks.specs.Masks.{Masked}
 use Rattle.ends_masks.specs.Seating.{seats, served, actionFits, fits, homes}
 use Rattle.ends_masks.proofs.Numbers.{all-alike}
 use Rattle.choice_judge.specs.Judging.{took, startsIn, edgeWrong, pinWrong, nodeWrong}
-use Rattle.choice_judge.proofs.Masks.{seats-mask, served-mask}
+use Rattle.choice_judge.proofs.Masks.{seats-mask}
 
 -- ---- what edges and pins tell a node: those that r holds of, each for the node f, where s says of the node whether they are asked
 module _ (s r ok : ℕ → Bool) (f : ℕ → ℕ) (i : ℕ) where
@@ -131,18 +131,18 @@ pub homes-marked : (t edge target home runs stock : List ℕ) (n c : ℕ) → lo
 unfolding homes
 homes-marked t edge target home runs stock n c = refl
 
--- the marks of the passes, where those that start were marked by the masks
-pub unfit-all : {t : List ℕ} {table : Table} {edge target home : List ℕ} {n : ℕ} {byEdge byTarget byHome : List ℕ} (runs stock : List ℕ) (c : ℕ) {starting unfit : List ℕ}
-    → Spans t table → Masks table edge target home n byEdge byTarget byHome → MarksOf (startsIn t byTarget byHome c) (table .nodes) starting
+-- the marks of the passes, by masks of two columns and the marks of those that start
+pub unfit-all : {t : List ℕ} {table : Table} (edge target home runs stock : List ℕ) (n c : ℕ) {byEdge byTarget starting unfit : List ℕ}
+    → Spans t table → table .edges ≤ length byEdge → table .nodes ≤ length byTarget → Masked edge n byEdge → Masked target n byTarget
+    → MarksOf (startsIn t target home n c) (table .nodes) starting
     → MarksOf (λ i. (placed (edgeWrong t (isMarked starting) c byEdge) (targetOf t) (edges t) i || placed (pinWrong t (isMarked starting) c byTarget) (owner t) (nodes t) i) || nodeWrong t (isMarked starting) c byTarget runs stock i) (table .nodes) unfit
     → MarksOf (λ i. not (fits t edge target home runs stock n c i)) (table .nodes) unfit
-unfit-all {t} {table} {edge} {target} {home} {n} {byEdge} {byTarget} {byHome} runs stock c {starting} s m b u = record {
+unfit-all {t} {table} edge target home runs stock n c {byEdge} {byTarget} {starting} s le lt me mt b u = record {
   tell = λ i l.
       let en = s .edges-read in
       let nn = s .nodes-read in
       u .tell i l
       ∙ ap oneIf
-      (unfit-marked t edge target home runs stock n c (isMarked starting) byEdge byTarget (λ e g. seats-mask edge n c e (at byEdge e) (at-edge m e (omega arith)))
-      (λ j g. seats-mask target n c j (at byTarget j) (at-target m j (omega arith))) i (omega arith)
-      (mark-test b i l ∙ ap (λ (x : Bool). isAction (kind t i) && x) (served-mask target home n c i _ (at-both m i l))));
+      (unfit-marked t edge target home runs stock n c (isMarked starting) byEdge byTarget (λ e g. seats-mask edge n c e (at byEdge e) (me .marks e (omega arith)))
+      (λ j g. seats-mask target n c j (at byTarget j) (mt .marks j (omega arith))) i (omega arith) (mark-test b i l));
 }

@@ -1,11 +1,12 @@
--- What judging a choice answers; rule 2 said by the word of all makers of taken ends, and rule 3 by masks of the ends. Assumes nothing.
+-- What judging a choice answers; rule 2 said by the word of all makers of taken ends, and rule 3 by masks of the ends and marks of
+-- what starts. Assumes nothing.
 use mathlib.Core.Path.{_≡_}
 use mathlib.Core.Bool.{Bool, not, _&&_, _||_}
 use mathlib.Core.List.{List, [], _∷_}
 use mathlib.Core.Option.{Option, none, some}
-use Prim.Native.Nat.{ℕ, _+_, _≤_, _<_}
+use Prim.Native.Nat.{ℕ, _+_, _<_}
 use lib.Dec.{leb, ltb, eqb}
-use lib.Bits.{bitAnd, bitOr}
+use lib.Bits.{bitAnd}
 use lib.Count.{ones}
 use lib.ListN.{length}
 use Rattle.paper.specs.Lists.{at, has, below, all, any, lowest, within, _⇒_}
@@ -14,7 +15,7 @@ use Rattle.paper.specs.Table.{nodes, kind, owner, lower, upper, target, isActio
 use Rattle.words.specs.Marks.{placed}
 use Rattle.offers.specs.declared.Offers.{Offers}
 use Rattle.ends_masks.specs.declared.Ends.{Ends}
-use Rattle.ends_masks.specs.Seating.{siblings, apart, forks, homes}
+use Rattle.ends_masks.specs.Seating.{siblings, firstRivalled, forks, served, homes}
 use Rattle.choice_judge.specs.declared.Judged.{Judged}
 use Rattle.choice_judge.specs.declared.Judged.the-variants.{Fine, Refused}
 use Rattle.choice_judge.specs.declared.Found.{Found}
@@ -34,7 +35,7 @@ found Nothing = none
 module _ (t : List ℕ) (o : Offers) (e : Ends) (runs stock : List ℕ) where
   abbrev pub rowRules : List (ℕ × (ℕ → Option ℕ))
   rowRules =
-      (10, apart (e .foes) (e .makers) (e .count)) ∷ (11, λ c. forks (o .node) (o .parents) (e .makers) (o .count) (e .count) c t)
+      (10, firstRivalled (e .foes) (e .makers) (e .count)) ∷ (11, λ c. forks (o .node) (o .parents) (e .makers) (o .count) (e .count) c t)
       ∷ (12, homes t (e .edge) (e .target) (e .home) runs stock (e .count)) ∷ []
 
 -- rule 2, where the word w has the makers of taken ends
@@ -66,8 +67,8 @@ abbrev pub took : List ℕ → ℕ → ℕ → ℕ
 took masks c x = ones (bitAnd (at masks x) c)
 
 -- node i is an action to which a taken end belongs
-abbrev pub startsIn : List ℕ → List ℕ → List ℕ → ℕ → ℕ → Bool
-startsIn t byTarget byHome c i = isAction (kind t i) && not (eqb (bitAnd (bitOr (at byTarget i) (at byHome i)) c) 0)
+abbrev pub startsIn : List ℕ → List ℕ → List ℕ → ℕ → ℕ → ℕ → Bool
+startsIn t target home n c i = isAction (kind t i) && served target home n c i
 
 -- what is wrong, where s says which actions start
 module _ (t : List ℕ) (s : ℕ → Bool) (c : ℕ) where

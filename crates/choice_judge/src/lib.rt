@@ -7,17 +7,19 @@ ghost use mathlib.Core.List.{List};
 ghost use Prim.Native.Nat.{ℕ, _≤_, _<_};
 ghost use lib.Bits.{bitAnd, bitOr};
 ghost use lib.Count.{ones};
+ghost use lib.Dec.{eqb};
 ghost use lib.ListN.{length, set};
 ghost use Rattle.paper.specs.Lists.{at, has, lowest};
 ghost use Rattle.paper.specs.Answers.{good, judgedBy};
-ghost use Rattle.paper.specs.Table.{nodes, edges, owner, target as targetOf};
+ghost use Rattle.paper.specs.Table.{nodes, edges, kind, owner, target as targetOf, isAction};
 ghost use Rattle.words.specs.Marks.{MarksOf, isMarked, placed};
 ghost use Rattle.table.specs.Reading.{Spans, Blank, tableRead};
 ghost use Rattle.offers.specs.Struct.{Full};
-ghost use Rattle.choice_masks.specs.Masks.{Masks};
-ghost use Rattle.ends_masks.specs.Seating.{EndsFull, rivalled, apart, makes, homes};
+ghost use Rattle.choice_masks.specs.Masks.{Masked};
+ghost use Rattle.ends_masks.specs.Seating.{EndsFull, rivalled, firstRivalled, makes, homes};
 ghost use Rattle.marking_held.specs.MarkingHeld.{HeldLengths};
 ghost use Rattle.choice_judge.specs.Judging.{said, found, rowRules, forksIn, partedAt, leftOut, PassedOn, startsIn, edgeWrong, pinWrong, nodeWrong};
+ghost use Rattle.paper.specs.Limits.{limits};
 use ends_masks::Ends;
 use marking_held::Held;
 use offers::Offers;
@@ -54,7 +56,7 @@ fn lowest_marked(marks: &[u8], n: usize) -> Found
 
 // Whether end k is taken and competes with a taken one.
 fn is_rivalled(foes: &[u64], makers: &[u64], n: usize, c: u32, k: usize) -> bool
-    requires { ⌜ (n ≤ length (now foes)) × (n ≤ length (now makers)) × (k < n) × (n ≤ 20) ⌝ }
+    requires { ⌜ (n ≤ length (now foes)) × (n ≤ length (now makers)) × (k < n) × (n ≤ limits .mostEnds) ⌝ }
     ensures { λ r. ⌜ r ≡ has c k && rivalled (now (foes .entry)) (now (makers .entry)) n c k ⌝ }
 {
     if !choice::is_taken(c, k) {
@@ -65,8 +67,8 @@ fn is_rivalled(foes: &[u64], makers: &[u64], n: usize, c: u32, k: usize) -> bool
 
 // The lowest taken end that competes with a taken one.
 fn rivalled_end(foes: &[u64], makers: &[u64], n: usize, c: u32) -> Found
-    requires { ⌜ (n ≤ length (now foes)) × (n ≤ length (now makers)) × (n ≤ 20) ⌝ }
-    ensures { λ r. ⌜ found r ≡ apart (now (foes .entry)) (now (makers .entry)) n c ⌝ }
+    requires { ⌜ (n ≤ length (now foes)) × (n ≤ length (now makers)) × (n ≤ limits .mostEnds) ⌝ }
+    ensures { λ r. ⌜ found r ≡ firstRivalled (now (foes .entry)) (now (makers .entry)) n c ⌝ }
 {
     let mut k: usize = 0;
     while k < n {
@@ -80,8 +82,8 @@ fn rivalled_end(foes: &[u64], makers: &[u64], n: usize, c: u32) -> Found
 
 // The same, by the word w of the makers of taken ends: where it has no foe of a taken end, none competes.
 fn competing_end(foes: &[u64], makers: &[u64], n: usize, c: u32, w: u64) -> Found
-    requires { ⌜ (n ≤ length (now foes)) × (n ≤ length (now makers)) × (n ≤ 20) ⌝ }
-    ensures { λ r. ⌜ (((y : ℕ) → has w y ≡ makes (now (makers .entry)) n c y) → found r ≡ apart (now (foes .entry)) (now (makers .entry)) n c) ⌝ }
+    requires { ⌜ (n ≤ length (now foes)) × (n ≤ length (now makers)) × (n ≤ limits .mostEnds) ⌝ }
+    ensures { λ r. ⌜ (((y : ℕ) → has w y ≡ makes (now (makers .entry)) n c y) → found r ≡ firstRivalled (now (foes .entry)) (now (makers .entry)) n c) ⌝ }
 {
     if ends_masks::all_makers(foes, n, c) & w == 0 {
         return Found::Nothing;
@@ -93,7 +95,7 @@ fn competing_end(foes: &[u64], makers: &[u64], n: usize, c: u32, w: u64) -> Foun
 
 // What row y was made from, if it is in the word.
 fn made_from(parents: &[u64], w: u64, y: usize) -> u64
-    requires { ⌜ (y < length (now parents)) × (y < 64) ⌝ }
+    requires { ⌜ (y < length (now parents)) × (y < limits .mostOffers) ⌝ }
     ensures { λ r. ⌜ ((b : ℕ) → has r b ≡ has w y && has (at (now (parents .entry)) y) b) ⌝ }
 {
     if !words::in_word(w, y) {
@@ -114,7 +116,7 @@ fn add_offers(passed: &mut [u64], i: usize, x: u64)
 
 // For each node, what the rows of the word w that leave it were made from.
 fn fill_passed(node: &[u8], parents: &[u64], rows: usize, w: u64, passed: &mut [u64])
-    requires { ⌜ (rows ≤ length (now node)) × (rows ≤ length (now parents)) × (rows ≤ 64) ⌝ }
+    requires { ⌜ (rows ≤ length (now node)) × (rows ≤ length (now parents)) × (rows ≤ limits .mostOffers) ⌝ }
     ensures { λ _. ⌜ (Blank (now (passed .entry)) → PassedOn (now (node .entry)) (now (parents .entry)) w rows (now (passed .exit))) ⌝ }
 {
     let mut y: usize = 0;
@@ -134,7 +136,7 @@ fn is_left_out(
     passed: &[u64],
     z: usize,
 ) -> bool
-    requires { ⌜ Spans (now t) table × (z < length (now node)) × (z < length (now parents)) × (z < 64) × (table .nodes ≤ length (now passed)) ⌝ }
+    requires { ⌜ Spans (now t) table × (z < length (now node)) × (z < length (now parents)) × (z < limits .mostOffers) × (table .nodes ≤ length (now passed)) ⌝ }
     ensures { λ r. ⌜ ((rows : ℕ) → PassedOn (now (node .entry)) (now (parents .entry)) w rows (now (passed .entry)) → r ≡ leftOut (now (node .entry)) (now (parents .entry)) rows w (now (t .entry)) z) ⌝ }
 {
     let i = wire::wide(node[z]);
@@ -161,7 +163,7 @@ fn mark_parted(
     passed: &[u64],
     parted: &mut [u8],
 )
-    requires { ⌜ Spans (now t) table × (rows ≤ length (now node)) × (rows ≤ length (now parents)) × (rows ≤ 64) × (table .nodes ≤ length (now passed)) × (table .nodes ≤ length (now parted)) ⌝ }
+    requires { ⌜ Spans (now t) table × (rows ≤ length (now node)) × (rows ≤ length (now parents)) × (rows ≤ limits .mostOffers) × (table .nodes ≤ length (now passed)) × (table .nodes ≤ length (now parted)) ⌝ }
     ensures { λ _. ⌜ (PassedOn (now (node .entry)) (now (parents .entry)) w rows (now (passed .entry)) → Blank (now (parted .entry)) → MarksOf (partedAt (now (node .entry)) (now (parents .entry)) rows w (now (t .entry))) (table .nodes) (now (parted .exit))) ⌝ }
 {
     let mut z: usize = 0;
@@ -176,8 +178,15 @@ fn mark_parted(
 }
 
 // The lowest fork that is not passed whole.
-fn parted_fork(t: &[u8], table: Table, node: &[u8], parents: &[u64], rows: usize, w: u64) -> Found
-    requires { ⌜ Spans (now t) table × (rows ≤ length (now node)) × (rows ≤ length (now parents)) × (rows ≤ 64) ⌝ }
+fn parted_fork<'a>(
+    t: &[u8],
+    table: Table,
+    node: &'a [u8],
+    parents: &'a [u64],
+    rows: usize,
+    w: u64,
+) -> Found
+    requires { ⌜ Spans (now t) table × (rows ≤ length (now node)) × (rows ≤ length (now parents)) × (rows ≤ limits .mostOffers) ⌝ }
     ensures { λ r. ⌜ found r ≡ forksIn (now (node .entry)) (now (parents .entry)) rows w (now (t .entry)) ⌝ }
 {
     let mut passed = [0u64; Table::MOST_NODES];
@@ -196,34 +205,30 @@ fn taken_of(mask: u32, c: u32) -> usize
     u32::count_ones(mask & c) as usize
 }
 
-// Whether node i is an action to which a taken end belongs.
-fn is_starting(t: &[u8], table: Table, by_target: &[u32], by_home: &[u32], c: u32, i: usize) -> bool
-    requires { ⌜ Spans (now t) table × (i < table .nodes) × (i < length (now «by_target»)) × (i < length (now «by_home»)) ⌝ }
-    ensures { λ r. ⌜ r ≡ startsIn (now (t .entry)) (now («by_target» .entry)) (now («by_home» .entry)) c i ⌝ }
+// Marks a node, if it is an action.
+fn mark_action(t: &[u8], table: Table, node: u8, marks: &mut [u8])
+    requires { ⌜ Spans (now t) table × (table .nodes ≤ length (now marks)) ⌝ }
+    ensures { λ _. ⌜ ((p : ℕ → Bool) → MarksOf p (table .nodes) (now (marks .entry)) → MarksOf (λ i. p i || (isAction (kind (now (t .entry)) i) && eqb node i)) (table .nodes) (now (marks .exit))) ⌝ }
 {
-    if table.kind(t, i) != Table::ACTION {
-        return false;
+    let i = wire::wide(node);
+    if table.nodes <= i {
+        return;
     }
-    choice_masks::owned(by_target, by_home, i) & c != 0
+    words::mark(marks, table.kind(t, i) == Table::ACTION, i);
 }
 
-// Marks the actions to which a taken end belongs.
-fn mark_starting(
-    t: &[u8],
-    table: Table,
-    by_target: &[u32],
-    by_home: &[u32],
-    c: u32,
-    starting: &mut [u8],
-)
-    requires { ⌜ Spans (now t) table × (table .nodes ≤ length (now «by_target»)) × (table .nodes ≤ length (now «by_home»)) × (table .nodes ≤ length (now starting)) ⌝ }
-    ensures { λ _. ⌜ (Blank (now (starting .entry)) → MarksOf (startsIn (now (t .entry)) (now («by_target» .entry)) (now («by_home» .entry)) c) (table .nodes) (now (starting .exit))) ⌝ }
+// Marks the actions to which a taken end belongs. Nothing is assumed of the columns, so targets are asked too, though an action is its own home.
+fn mark_starting(t: &[u8], table: Table, ends: Ends, c: u32, starting: &mut [u8])
+    requires { ⌜ Spans (now t) table × EndsFull ends × (table .nodes ≤ length (now starting)) ⌝ }
+    ensures { λ _. ⌜ (Blank (now (starting .entry)) → MarksOf (startsIn (now (t .entry)) (ends .target) (ends .home) (ends .count) c) (table .nodes) (now (starting .exit))) ⌝ }
 {
-    let n = table.nodes;
-    let mut i: usize = 0;
-    while i < n {
-        words::mark(starting, is_starting(t, table, by_target, by_home, c, i), i);
-        i += 1;
+    let mut k: usize = 0;
+    while k < ends.count {
+        if choice::is_taken(c, k) {
+            mark_action(t, table, ends.target[k], starting);
+            mark_action(t, table, ends.home[k], starting);
+        }
+        k += 1;
     }
 }
 
@@ -319,71 +324,61 @@ fn mark_nodes(
     table: Table,
     by_target: &[u32],
     starting: &[u8],
-    runs: &[u8],
-    stock: &[u8],
+    held: Held,
     c: u32,
     unfit: &mut [u8],
 )
-    requires { ⌜ Spans (now t) table × (table .nodes ≤ length (now «by_target»)) × (table .nodes ≤ length (now runs)) × (table .nodes ≤ length (now stock)) × (table .nodes ≤ length (now unfit)) ⌝ }
-    ensures { λ _. ⌜ ((p : ℕ → Bool) → MarksOf p (table .nodes) (now (unfit .entry)) → MarksOf (λ i. p i || nodeWrong (now (t .entry)) (isMarked (now (starting .entry))) c (now («by_target» .entry)) (now (runs .entry)) (now (stock .entry)) i) (table .nodes) (now (unfit .exit))) ⌝ }
+    requires { ⌜ Spans (now t) table × (table .nodes ≤ length (now «by_target»)) × HeldLengths held × (table .nodes ≤ length (now unfit)) ⌝ }
+    ensures { λ _. ⌜ ((p : ℕ → Bool) → MarksOf p (table .nodes) (now (unfit .entry)) → MarksOf (λ i. p i || nodeWrong (now (t .entry)) (isMarked (now (starting .entry))) c (now («by_target» .entry)) (held .runs) (held .kept) i) (table .nodes) (now (unfit .exit))) ⌝ }
 {
+    let runs = held.runs;
+    let stock = held.kept;
     let n = table.nodes;
     let mut i: usize = 0;
     while i < n {
         words::mark(
             unfit,
-            node_wrong(t, table, by_target, starting, runs, stock, c, i),
+            node_wrong(t, table, by_target, starting, &runs, &stock, c, i),
             i,
         );
         i += 1;
     }
 }
 
-// The lowest node that doesn't agree with what is taken, by the masks of the ends.
+// The lowest node that doesn't agree with what is taken, by the masks of the ends and the marks of what starts.
 fn unfit_by_masks(
     t: &[u8],
     table: Table,
     by_edge: &[u32],
     by_target: &[u32],
-    by_home: &[u32],
-    runs: &[u8],
-    stock: &[u8],
+    starting: &[u8],
+    held: Held,
     c: u32,
 ) -> Found
-    requires { ⌜ Spans (now t) table × (table .edges ≤ length (now «by_edge»)) × (table .nodes ≤ length (now «by_target»)) × (table .nodes ≤ length (now «by_home»)) × (table .nodes ≤ length (now runs)) × (table .nodes ≤ length (now stock)) ⌝ }
-    ensures { λ r. ⌜ ((edge target home : List ℕ) (n : ℕ) → Masks table edge target home n (now («by_edge» .entry)) (now («by_target» .entry)) (now («by_home» .entry)) → found r ≡ homes (now (t .entry)) edge target home (now (runs .entry)) (now (stock .entry)) n c) ⌝ }
+    requires { ⌜ Spans (now t) table × (table .edges ≤ length (now «by_edge»)) × (table .nodes ≤ length (now «by_target»)) × HeldLengths held ⌝ }
+    ensures { λ r. ⌜ ((edge target home : List ℕ) (n : ℕ) → Masked edge n (now («by_edge» .entry)) → Masked target n (now («by_target» .entry)) → MarksOf (startsIn (now (t .entry)) target home n c) (table .nodes) (now (starting .entry)) → found r ≡ homes (now (t .entry)) edge target home (held .runs) (held .kept) n c) ⌝ }
 {
-    let mut starting = [0u8; Table::MOST_NODES];
-    mark_starting(t, table, by_target, by_home, c, &mut starting);
     let mut unfit = [0u8; Table::MOST_NODES];
-    mark_edges(t, table, by_edge, &starting, c, &mut unfit);
-    mark_pins(t, table, by_target, &starting, c, &mut unfit);
-    mark_nodes(t, table, by_target, &starting, runs, stock, c, &mut unfit);
+    mark_edges(t, table, by_edge, starting, c, &mut unfit);
+    mark_pins(t, table, by_target, starting, c, &mut unfit);
+    mark_nodes(t, table, by_target, starting, held, c, &mut unfit);
     lowest_marked(&unfit, table.nodes)
 }
 
 // The lowest node that doesn't agree with what is taken.
-fn unfit_node(
-    t: &[u8],
-    table: Table,
-    edge: &[u8],
-    target: &[u8],
-    home: &[u8],
-    n: usize,
-    runs: &[u8],
-    stock: &[u8],
-    c: u32,
-) -> Found
-    requires { ⌜ Spans (now t) table × (nodes (now t) ≤ length (now runs)) × (nodes (now t) ≤ length (now stock)) × (n ≤ length (now edge)) × (n ≤ length (now target)) × (n ≤ length (now home)) × (n ≤ 20) ⌝ }
-    ensures { λ r. ⌜ found r ≡ homes (now (t .entry)) (now (edge .entry)) (now (target .entry)) (now (home .entry)) (now (runs .entry)) (now (stock .entry)) n c ⌝ }
+fn unfit_node(t: &[u8], table: Table, ends: Ends, held: Held, c: u32) -> Found
+    requires { ⌜ Spans (now t) table × EndsFull ends × HeldLengths held ⌝ }
+    ensures { λ r. ⌜ found r ≡ homes (now (t .entry)) (ends .edge) (ends .target) (ends .home) (held .runs) (held .kept) (ends .count) c ⌝ }
 {
+    let edge = ends.edge;
+    let target = ends.target;
     let mut by_edge = [0u32; Table::MOST_EDGES];
     let mut by_target = [0u32; Table::MOST_NODES];
-    let mut by_home = [0u32; Table::MOST_NODES];
-    choice_masks::fill_masks(&mut by_edge, edge, n);
-    choice_masks::fill_masks(&mut by_target, target, n);
-    choice_masks::fill_masks(&mut by_home, home, n);
-    unfit_by_masks(t, table, &by_edge, &by_target, &by_home, runs, stock, c)
+    let mut starting = [0u8; Table::MOST_NODES];
+    choice_masks::fill_masks(&mut by_edge, &edge, ends.count);
+    choice_masks::fill_masks(&mut by_target, &target, ends.count);
+    mark_starting(t, table, ends, c, &mut starting);
+    unfit_by_masks(t, table, &by_edge, &by_target, &starting, held, c)
 }
 
 // ---- all three
@@ -400,17 +395,10 @@ pub fn judge(t: &[u8], table: Table, offers: Offers, ends: Ends, held: Held, c: 
     if let Found::At(k) = competing_end(&foes, &makers, n, c, w) {
         return Judged::Refused(10, k);
     }
-    let node = offers.node;
-    let parents = offers.parents;
-    if let Found::At(i) = parted_fork(t, table, &node, &parents, offers.count, w) {
+    if let Found::At(i) = parted_fork(t, table, &offers.node, &offers.parents, offers.count, w) {
         return Judged::Refused(11, i);
     }
-    let edge = ends.edge;
-    let target = ends.target;
-    let home = ends.home;
-    let runs = held.runs;
-    let stock = held.kept;
-    if let Found::At(i) = unfit_node(t, table, &edge, &target, &home, n, &runs, &stock, c) {
+    if let Found::At(i) = unfit_node(t, table, ends, held, c) {
         return Judged::Refused(12, i);
     }
     Judged::Fine

@@ -7,6 +7,7 @@ ghost use lib.ListN.{length, set};
 ghost use Rattle.paper.specs.Lists.{at};
 ghost use Rattle.table.specs.Reading.{Blank};
 ghost use Rattle.choice_masks.specs.Masks.{Masked};
+ghost use Rattle.paper.specs.Limits.{limits};
 
 // End k, in the word of x; past the last word there is none to put it in.
 fn add_end(masks: &mut [u32], x: usize, k: usize)
@@ -21,7 +22,7 @@ fn add_end(masks: &mut [u32], x: usize, k: usize)
 
 // For each number, the ends that have it in a column.
 pub fn fill_masks(masks: &mut [u32], column: &[u8], n: usize)
-    requires { ⌜ Blank (now masks) × (n ≤ length (now column)) × (n ≤ 20) ⌝ }
+    requires { ⌜ Blank (now masks) × (n ≤ length (now column)) × (n ≤ limits .mostEnds) ⌝ }
     ensures { λ _. ⌜ Masked (now (column .entry)) n (now (masks .exit)) ⌝ }
 {
     let mut k: usize = 0;

@@ -2,12 +2,13 @@
 use mathlib.Core.Path.{_≡_, refl, sym, ap, ap₂, _∙_, subst}
 use mathlib.Core.List.{List, [], _∷_, _++_, append-nil}
 use mathlib.Core.Bool.{true, false, cond}
-use Prim.Native.Nat.{ℕ, zero, suc, _+_, _*_, _-_, _≤_, _<_}
+use Prim.Native.Nat.{ℕ, zero, suc, _+_, _*_, _-_, _%_, _≤_, _<_}
 use native.Mathlib.Omega.{arith}
 use native.Mathlib.Decide.{decLt}
 use lib.ListN.{length, set, length-append}
 use lib.Seq.{getD-set-same, getD-set-other}
 use Rattle.paper.specs.Lists.{at, from, below, gather}
+use Rattle.paper.specs.Limits.{limits}
 use Rattle.paper.specs.Table.{edges, kind, target, isControlNode}
 use Rattle.paper.proofs.Lists.{below-more, below-split}
 use Rattle.paper.proofs.Lengths.{length-from, gather-append}
@@ -16,7 +17,7 @@ use Rattle.offers.proofs.Segments.{gather-snoc}
 use Rattle.ends_paths.specs.Blocks.{run}
 use Rattle.ends_paths.proofs.Runs.{run-split, run-same}
 use Rattle.ends_paths.proofs.Walks.{length-run}
-use Rattle.ends.specs.Slots.{endsOn, endRows, keyOf, Added, Keyed}
+use Rattle.ends.specs.Slots.{Grouped, endsOn, endRows, keyOf, Added, Keyed}
 
 -- ---- rows added
 -- one cell more behind the first n
@@ -86,6 +87,36 @@ module _ {old found oldKeys keys : List ℕ} {n a m key : ℕ} (g : Added old fo
         }
   ]
 
+-- the first n slots have keys of edges below e, and those of one key stand side by side
+pub record Rising (keys : List ℕ) (n e : ℕ) : Type 0 where
+  pub lower : (s : ℕ) → s < n → at keys s % 256 < e
+  pub grouped : Grouped keys n
+
+pub rising-none : (keys : List ℕ) → Rising keys 0 0
+rising-none keys = record { lower = λ s l. absurd (omega arith); grouped = λ a b l m. absurd (omega arith) }
+
+pub rising-skip : {keys : List ℕ} {n e : ℕ} → Rising keys n e → Rising keys n (e + 1)
+rising-skip r = record { lower = λ s l. let w = r .lower s l in omega arith; grouped = r .grouped }
+
+pub rising-more : {old found oldKeys keys : List ℕ} {n a m key e : ℕ} → Added old found oldKeys keys n a m key → key % 256 ≡ e → Rising oldKeys n e
+    → Rising keys (n + m) (e + 1)
+rising-more {keys = keys} {n = n} {m = m} {key = key} {e = e} g is r = record {
+  lower = λ s l. elim (decLt s n) [
+    | yes w ↦ let k = g .keys-kept s w in let h = r .lower s w in omega arith
+    | no w ↦ let k = new s (omega arith) l in omega arith
+  ];
+  grouped = λ a b l h same. elim (decLt b n) [
+    | yes w ↦ g .keys-kept a (omega arith) ∙ r .grouped a b l w (sym (g .keys-kept a (omega arith)) ∙ same ∙ g .keys-kept b w) ∙ sym (g .keys-kept (a + 1) (omega arith))
+    | no w ↦ elim (decLt a n) [
+      | yes u ↦ let p = g .keys-kept a u in let q = r .lower a u in let k = new b (omega arith) h in absurd (omega arith)
+      | no u ↦ new a (omega arith) (omega arith) ∙ sym (new (a + 1) (omega arith) (omega arith))
+    ]
+  ];
+}
+  where
+    new : (s : ℕ) → n ≤ s → s < n + m → at keys s ≡ key
+    new s u l = let z : s ≡ n + (s - n) = omega arith in ap (at keys) z ∙ g .keys-added (s - n) (omega arith)
+
 pub key-is : (t : List ℕ) (node e : ℕ) → node ≡ target t e → 256 * node + e ≡ keyOf t e
 unfolding keyOf
 key-is t node e h = ap (λ z. 256 * z + e) h
@@ -122,6 +153,6 @@ module _ (t a b : List ℕ) where
           ∙ ap₂ (λ u v. u ++ v) g (ap₂ (λ u v. from u (v - u)) p q)
           ∙ sym (rows-snoc e ∙ ap (λ z. endRows t a b e ++ cond z [] (from (at a e) (at b e - at a e))) h)
 
-      pub rows-many : (m : ℕ) → e < m → 20 < n + (at b e - at a e) → 20 < length (endRows t a b m)
+      pub rows-many : (m : ℕ) → e < m → limits .mostEnds < n + (at b e - at a e) → limits .mostEnds < length (endRows t a b m)
       rows-many m l k =
           omega (arith, rows-longer e m l, ap length g, length-run (at found) 0 n, ap (λ z. length (cond z [] (from (at a e) (at b e - at a e)))) h, length-from (at a e) (at b e - at a e))

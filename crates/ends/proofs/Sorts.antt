@@ -6,11 +6,12 @@ use Prim.Native.Nat.{ℕ, zero, suc, _+_, _≤_, _<_, Ordering, Ordering·lt, Or
 use native.Mathlib.Omega.{arith}
 use lib.ListN.{length, getD, take, drop}
 use lib.Seq.{drop-cons}
-use Rattle.paper.specs.Lists.{at, each, keep}
+use Rattle.paper.specs.Lists.{at, from, each, keep}
 use Rattle.paper.specs.Offers.{insert, sort}
 use Rattle.paper.proofs.Members.{In, here, later}
 use Rattle.paper.proofs.Orders.{in-sort}
 use Rattle.ends_paths.specs.Blocks.{run}
+use Rattle.ends_paths.proofs.Insertion.{in-from}
 
 -- ---- lists
 pub each-each : {A B C : Type 0} (f : B → C) (g : A → B) (xs : List A) → each f (each g xs) ≡ each (λ x. f (g x)) xs
@@ -38,8 +39,8 @@ run-part l lo zero h = refl
 run-part l lo (suc n) h = ap (take (suc n)) (drop-cons l lo 0 (omega arith)) ∙ ap (λ z. at l lo ∷ z) (run-part l (suc lo) n (omega arith))
 
 -- ---- a sort carried over
-module _ {A B : Type 0} (f : A → B) (c : A → A → Ordering) (d : B → B → Ordering) where
-  insert-each : (x : A) (ys : List A) → ((y : A) → In y ys → c x y ≡ d (f x) (f y)) → each f (insert c x ys) ≡ insert d (f x) (each f ys)
+module _ {B : Type 0} (f : ℕ → B) (c : ℕ → ℕ → Ordering) (d : B → B → Ordering) where
+  insert-each : (x : ℕ) (ys : List ℕ) → ((y : ℕ) → In y ys → c x y ≡ d (f x) (f y)) → each f (insert c x ys) ≡ insert d (f x) (each f ys)
   insert-each x [] h = refl
   insert-each x (y ∷ ys) h = by (c x y) refl (insert-each x ys (λ z m. h z (later m)))
     where
@@ -48,7 +49,9 @@ module _ {A B : Type 0} (f : A → B) (c : A → A → Ordering) (d : B → B �
       by Ordering·eq q ih = rw (q, sym (h y (here refl)) ∙ q)
       by Ordering·gt q ih = rw (q, sym (h y (here refl)) ∙ q) (ap (λ z. f y ∷ z) ih)
 
-  pub sort-each : (xs : List A) → ((x y : A) → In x xs → In y xs → c x y ≡ d (f x) (f y)) → each f (sort c xs) ≡ sort d (each f xs)
-  sort-each [] h = refl
-  sort-each (x ∷ xs) h =
-      insert-each x (sort c xs) (λ y m. h x y (here refl) (later (in-sort c xs m))) ∙ ap (insert d (f x)) (sort-each xs (λ y z a b. h y z (later a) (later b)))
+  -- of numbers that follow each other; a number is compared with those behind it alone
+  pub sort-each : (lo n : ℕ) → ((x y : ℕ) → x < y → y < lo + n → c x y ≡ d (f x) (f y)) → each f (sort c (from lo n)) ≡ sort d (run f lo n)
+  sort-each lo zero h = refl
+  sort-each lo (suc n) h =
+      insert-each lo (sort c (from (suc lo) n)) (λ y m. let q = in-from (suc lo) n (in-sort c (from (suc lo) n) m) in h lo y (omega arith) (omega arith))
+      ∙ ap (insert d (f lo)) (sort-each (suc lo) n (λ x y a b. h x y a (omega arith)))

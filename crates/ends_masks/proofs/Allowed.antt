@@ -10,10 +10,10 @@ use Rattle.paper.specs.Table.{nodes, kind, isFork}
 use Rattle.paper.specs.Offers.{Offer}
 use Rattle.paper.specs.Choices.{Board, rule1, rule2, rule3, rules, acceptable}
 use Rattle.paper.specs.Operations.{named, wanted}
-use Rattle.offers.specs.Struct.{rowsOf}
+use Rattle.offers.specs.Struct.{Beside, rowsOf}
 use Rattle.offers.specs.declared.Offers.{Offers}
 use Rattle.ends_masks.specs.declared.Ends.{Ends}
-use Rattle.ends_masks.specs.Seating.{Seated, Told, rivalled, apart, passed, forks, served, fits, homes, noRivals, forksWhole, destinationsFit, allowed}
+use Rattle.ends_masks.specs.Seating.{Seated, MarkingTold, rivalled, firstRivalled, passed, forks, served, fits, homes, noRivals, forksWhole, destinationsFit, allowed}
 use Rattle.ends_masks.proofs.Numbers.{all-below-alike}
 use Rattle.ends_masks.proofs.Rules.{rule1-rows, rule2-rows, rule3-rows, served-rows}
 
@@ -40,23 +40,23 @@ judged-clear (r ∷ rs) a = by (r .1 a) (judged-clear rs a)
     by none e = e
     by (some k) e = refl
 
-module _ (t : List ℕ) (d : Board) (o : Offers) (links : List ℕ) (ts : List Offer) (es : Ends) (c : ℕ) (s : Seated t d (rowsOf o links) ts es)
-    (runs stock : List ℕ) (m : Told t (d .current) runs stock) where
+module _ (t : List ℕ) (d : Board) (o : Offers) (beside : Beside) (ts : List Offer) (es : Ends) (c : ℕ) (s : Seated t d (rowsOf o beside) ts es)
+    (runs stock : List ℕ) (m : MarkingTold t (d .current) runs stock) where
   -- each rule finds no place exactly if the rows say that it is kept, and is then passed
   clear1 : clear (rule1 d c) ≡ noRivals (es .foes) (es .makers) (es .count) c
-  unfolding noRivals apart
-  clear1 = ap clear (rule1-rows t d o links ts es c s) ∙ find-clear (λ j. has c j && rivalled (es .foes) (es .makers) (es .count) c j) (below (es .count))
+  unfolding noRivals firstRivalled
+  clear1 = ap clear (rule1-rows t d o beside ts es c s) ∙ find-clear (λ j. has c j && rivalled (es .foes) (es .makers) (es .count) c j) (below (es .count))
 
   clear2 : clear (rule2 d c) ≡ forksWhole t (o .node) (o .parents) (es .makers) (o .count) (es .count) c
   unfolding forksWhole forks
   clear2 =
-      ap clear (rule2-rows t d o links ts es c s)
+      ap clear (rule2-rows t d o beside ts es c s)
       ∙ find-clear (λ i. isFork (kind t i) && not (passed (o .node) (o .parents) (es .makers) (o .count) (es .count) c i)) (below (nodes t))
 
   clear3 : clear (rule3 d c) ≡ destinationsFit t (es .edge) (es .target) (es .home) runs stock (es .count) c
   unfolding destinationsFit homes
   clear3 =
-      ap clear (rule3-rows t d o links ts es c s runs stock m)
+      ap clear (rule3-rows t d o beside ts es c s runs stock m)
       ∙ find-clear (λ i. not (fits t (es .edge) (es .target) (es .home) runs stock (es .count) c i)) (below (nodes t))
       ∙ all-below-alike (λ i. not (not (fits t (es .edge) (es .target) (es .home) runs stock (es .count) c i))) (fits t (es .edge) (es .target) (es .home) runs stock (es .count) c) (nodes t) (λ i l. Bool·not-not _)
 
@@ -73,4 +73,4 @@ module _ (t : List ℕ) (d : Board) (o : Offers) (links : List ℕ) (ts : List O
 
   pub wanted-rows : (i : ℕ) → wanted d i c ≡ allowed t o es runs stock c && (not (named i) || served (es .target) (es .home) (es .count) c i)
   unfolding wanted
-  wanted-rows i = ap₂ (λ (x y : Bool). x && (not (named i) || y)) acceptable-rows (served-rows t d o links ts es c s i)
+  wanted-rows i = ap₂ (λ (x y : Bool). x && (not (named i) || y)) acceptable-rows (served-rows t d o beside ts es c s i)

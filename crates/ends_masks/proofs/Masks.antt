@@ -18,6 +18,7 @@ use Rattle.paper.proofs.Bits.{has-or}
 use Rattle.paper.proofs.Counts.{any-below}
 use Rattle.paper.proofs.Digits.{has-zero}
 use Rattle.offers.specs.Sets.{Marks}
+use Rattle.offers.specs.Rows.{rowsIn}
 use Rattle.ends_masks.specs.Seating.{Columns, makes}
 
 -- ---- words of the numbers that pass
@@ -40,19 +41,19 @@ column-more f l k v fits e h j less =
 abbrev pub homeOf : List ℕ → ℕ → ℕ
 homeOf t i = cond (isPin (kind t i)) (owner t i) i
 
-module _ {t last ends : List ℕ} where
-  pub columns-none : (edge target home : List ℕ) → Columns t last ends edge target home 0
+module _ {t m ends : List ℕ} where
+  pub columns-none : (edge target home : List ℕ) → Columns t m ends edge target home 0
   columns-none edge target home = record {
     edges-are = λ k l. absurd (omega arith);
     targets-are = λ k l. absurd (omega arith);
     homes-are = λ k l. absurd (omega arith);
   }
 
-  pub columns-more : {edge target home : List ℕ} {k e i h : ℕ} → Columns t last ends edge target home k
-      → k < length edge → k < length target → k < length home → e ≡ at last (at ends k) → i ≡ targetOfEdge t e → h ≡ homeOf t i
-      → Columns t last ends (set edge k e) (set target k i) (set home k h) (k + 1)
+  pub columns-more : {edge target home : List ℕ} {k e i h : ℕ} → Columns t m ends edge target home k
+      → k < length edge → k < length target → k < length home → e ≡ rowsIn m 0 .entry (at ends k) .last % 256 → i ≡ targetOfEdge t e → h ≡ homeOf t i
+      → Columns t m ends (set edge k e) (set target k i) (set home k h) (k + 1)
   columns-more {edge} {target} {home} {k} {e} {i} {h} c le lt lh ee ei eh =
-      let es = column-more (λ j. at last (at ends j)) edge k e le ee (c .edges-are) in
+      let es = column-more (λ j. rowsIn m 0 .entry (at ends j) .last % 256) edge k e le ee (c .edges-are) in
       let ts =
       column-more (λ j. targetOfEdge t (at (set edge k e) j)) target k i lt (ei ∙ ap (targetOfEdge t) (sym (getD-set-same edge k e 0 le)))
       (λ j u. c .targets-are j u ∙ ap (targetOfEdge t) (sym (getD-set-other edge k j e 0 (omega arith)))) in

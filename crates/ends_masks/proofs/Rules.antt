@@ -22,12 +22,12 @@ use Rattle.paper.proofs.Actions.{agrees-every-edge}
 use Rattle.paper.proofs.Sameness.{elem-in, in-elem}
 use Rattle.offers.specs.Sets.{nth}
 use Rattle.offers.specs.Rows.{Row}
-use Rattle.offers.specs.Struct.{rowsOf}
+use Rattle.offers.specs.Struct.{Beside, rowsOf}
 use Rattle.offers.specs.declared.Offers.{Offers}
 use Rattle.ends_masks.specs.declared.Ends.{Ends}
 use Rattle.offers.proofs.Sets.{member, number, meet}
 use Rattle.offers.proofs.Rows.{rows-compete}
-use Rattle.ends_masks.specs.Seating.{Seated, Told, rival, rivalled, apart, siblings, makes, kept, passed, forks, seats, served, actionFits, fits, homes}
+use Rattle.ends_masks.specs.Seating.{Seated, MarkingTold, rival, rivalled, firstRivalled, siblings, makes, kept, passed, forks, seats, served, actionFits, fits, homes}
 use Rattle.ends_masks.proofs.Numbers.{any-below-alike, all-alike, lowest-alike, find-keep, kept-number}
 use Rattle.ends_masks.proofs.Taking.{origins-make, any-ends, count-ends, makes-row, maker-row}
 
@@ -48,15 +48,15 @@ idle false = refl
 pub held-kind : (k : ℕ) → isBuffer k || isOutgoing k ≡ true → isObjectNode k ≡ true
 held-kind k h = ⊎-elim (λ e. rw (eqb-true k 5 e) refl) (λ e. rw (eqb-true k 7 e) refl) (or-true (isBuffer k) (isOutgoing k) h)
 
-module _ (t : List ℕ) (d : Board) (o : Offers) (links : List ℕ) (ts : List Offer) (es : Ends) (c : ℕ) (s : Seated t d (rowsOf o links) ts es) where
+module _ (t : List ℕ) (d : Board) (o : Offers) (beside : Beside) (ts : List Offer) (es : Ends) (c : ℕ) (s : Seated t d (rowsOf o beside) ts es) where
   -- ---- rule 1
   ends-compete : (k j : ℕ) → k < es .count → j < es .count → not (eqb j k) && compete (d .table) (end d k) (end d j) ≡ rival (es .foes) (es .makers) k j
   ends-compete k j lk lj =
       ap (λ (b : Bool). not (eqb j k) && b)
-      (rw (s .table-is, sym (s .ends-are k lk), sym (s .ends-are j lj), s .foes-are k lk, s .makers-are k lk, s .foes-are j lj, s .makers-are j lj) (rows-compete t (rowsOf o links) ts (s .holds-ts) (at (es .row) k) (at (es .row) j) (s .inside k lk) (s .inside j lj)))
+      (rw (s .table-is, sym (s .ends-are k lk), sym (s .ends-are j lj), s .foes-are k lk, s .makers-are k lk, s .foes-are j lj, s .makers-are j lj) (rows-compete t (rowsOf o beside) ts (s .holds-ts) (at (es .row) k) (at (es .row) j) (s .inside k lk) (s .inside j lj)))
 
-  pub rule1-rows : rule1 d c ≡ apart (es .foes) (es .makers) (es .count) c
-  unfolding rule1 taken apart rivalled
+  pub rule1-rows : rule1 d c ≡ firstRivalled (es .foes) (es .makers) (es .count) c
+  unfolding rule1 taken firstRivalled rivalled
   rule1-rows =
       find-keep (has c) (λ k. any (λ j. not (eqb j k) && compete (d .table) (end d k) (end d j)) (keep (has c) (below (howMany d)))) (below (howMany d))
       ∙ rw (sym (s .number))
@@ -68,7 +68,7 @@ module _ (t : List ℕ) (d : Board) (o : Offers) (links : List ℕ) (ts : List O
       (λ j lj. ap (λ (b : Bool). has c j && b) (ends-compete k j lk lj)))))
 
   -- ---- rule 2
-  abbrev row-of : (y : ℕ) → y < length ts → Row t ts (nth ts y) (rowsOf o links .entry y)
+  abbrev row-of : (y : ℕ) → y < length ts → Row t ts (nth ts y) (rowsOf o beside .entry y)
   row-of y l = s .holds-ts .rows y l
 
   made-row : (y : ℕ) → y < length ts → madeAt (d .table) (nth ts y) ≡ at (o .node) y
@@ -98,14 +98,14 @@ module _ (t : List ℕ) (d : Board) (o : Offers) (links : List ℕ) (ts : List O
       let q = and-true (siblings (o .node) (o .parents) (y .0) z) _ (y .2) in
       let w = and-true (eqb (at (o .node) (y .0)) (at (o .node) z)) _ (q .0) in
       let x = any-in (λ x. elem x (origins (nth ts z))) (origins (nth ts (y .0))) (meet (row-of (y .0) ly .parents-are) (row-of z lz .parents-are) ∙ w .1) in
-      let my = elem-in (takenMakers d c) (makes-row t d o links ts es c s (y .0) ly ∙ q .1) in
+      let my = elem-in (takenMakers d c) (makes-row t d o beside ts es c s (y .0) ly ∙ q .1) in
       let r = all-in (λ x. any (extending i x) (takenMakers d c) ⇒ all (λ y. extending i x y ⇒ elem y (takenMakers d c)) (d .allOffers)) h (origin-taken my (x .1)) in
       let ny : eqb (madeAt (d .table) (nth ts (y .0))) i ≡ true = rw (made-row (y .0) ly, eqb-true (at (o .node) (y .0)) (at (o .node) z) (w .0)) ez in
       let ey : extending i (x .0) (nth ts (y .0)) ≡ true = and-both _ _ ny (in-elem (x .1)) in
       let u = if-true _ _ r (in-any (extending i (x .0)) my ey) in
       let v = all-in (λ y. extending i (x .0) y ⇒ elem y (takenMakers d c)) u (elem-in (d .allOffers) (sym (s .offers-are (nth ts z)) ∙ in-elem (member ts z lz))) in
       let mz : eqb (madeAt (d .table) (nth ts z)) i ≡ true = rw (made-row z lz) ez in
-      sym (makes-row t d o links ts es c s z lz) ∙ if-true _ _ v (and-both _ _ mz (x .2)))
+      sym (makes-row t d o beside ts es c s z lz) ∙ if-true _ _ v (and-both _ _ mz (x .2)))
 
   kept-whole : (i : ℕ) → ((z : ℕ) → z < length ts → eqb (at (o .node) z) i ≡ true → kept (o .node) (o .parents) (es .makers) (o .count) (es .count) c z ≡ true) → passedWhole d c i ≡ true
   unfolding passedWhole kept
@@ -113,7 +113,7 @@ module _ (t : List ℕ) (d : Board) (o : Offers) (links : List ℕ) (ts : List O
       in-all (λ x. any (extending i x) (takenMakers d c) ⇒ all (λ y. extending i x y ⇒ elem y (takenMakers d c)) (d .allOffers)) (takenMakers d c) (λ x mx.
       if-so _ _ (λ hy.
       let y = any-in (extending i x) (takenMakers d c) hy in
-      let yr = maker-row t d o links ts es c s (y .1) in
+      let yr = maker-row t d o beside ts es c s (y .1) in
       let qy = and-true (eqb (madeAt (d .table) (y .0)) i) _ (y .2) in
       in-all (λ y. extending i x y ⇒ elem y (takenMakers d c)) (d .allOffers) (λ z mz.
       if-so _ _ (λ hz.
@@ -125,9 +125,9 @@ module _ (t : List ℕ) (d : Board) (o : Offers) (links : List ℕ) (ts : List O
       let oz : elem x (origins (nth ts (zr .0))) ≡ true = rw (zr .2) (qz .1) in
       let sh = in-any (λ x. elem x (origins (nth ts (zr .0)))) (elem-in (origins (nth ts (yr .0))) oy) oz in
       let sb : siblings (o .node) (o .parents) (yr .0) (zr .0) ≡ true = and-both _ _ (eq-eqb _ _ (eqb-true _ i ey ∙ sym (eqb-true _ i ez))) (sym (meet (row-of (yr .0) (yr .1) .parents-are) (row-of (zr .0) (zr .1) .parents-are)) ∙ sh) in
-      let mk : makes (es .makers) (es .count) c (yr .0) ≡ true = sym (makes-row t d o links ts es c s (yr .0) (yr .1)) ∙ rw (yr .2) (in-elem (y .1)) in
+      let mk : makes (es .makers) (es .count) c (yr .0) ≡ true = sym (makes-row t d o beside ts es c s (yr .0) (yr .1)) ∙ rw (yr .2) (in-elem (y .1)) in
       let r = if-true _ _ (h (zr .0) (zr .1) ez) (in-any (λ y. siblings (o .node) (o .parents) y (zr .0) && makes (es .makers) (es .count) c y) (row-inside (yr .1)) (and-both _ _ sb mk)) in
-      ap (λ x. elem x (takenMakers d c)) (sym (zr .2)) ∙ makes-row t d o links ts es c s (zr .0) (zr .1) ∙ r))))
+      ap (λ x. elem x (takenMakers d c)) (sym (zr .2)) ∙ makes-row t d o beside ts es c s (zr .0) (zr .1) ∙ r))))
 
   whole-rows : (i : ℕ) → passedWhole d c i ≡ passed (o .node) (o .parents) (es .makers) (o .count) (es .count) c i
   unfolding passed
@@ -161,20 +161,20 @@ module _ (t : List ℕ) (d : Board) (o : Offers) (links : List ℕ) (ts : List O
   -- the node i is served
   pub served-rows : (i : ℕ) → any (belongs (d .table) i) (takenEnds d c) ≡ served (es .target) (es .home) (es .count) c i
   unfolding served
-  served-rows i = any-ends t d o links ts es c s (belongs (d .table) i) (λ j. eqb (at (es .target) j) i || eqb (at (es .home) j) i) (belongs-row i)
+  served-rows i = any-ends t d o beside ts es c s (belongs (d .table) i) (λ j. eqb (at (es .target) j) i || eqb (at (es .home) j) i) (belongs-row i)
 
   -- the ends taken at node i
   pub arrivals-rows : (i : ℕ) → length (arrivals d c i) ≡ seats (es .target) (es .count) c i
   unfolding arrivals seats
   arrivals-rows i =
       kept-number (λ x. eqb (targetOf (d .table) x) i) (takenEnds d c)
-      ∙ count-ends t d o links ts es c s (λ x. eqb (targetOf (d .table) x) i) (λ j. eqb (at (es .target) j) i) (λ j l. ap (λ (x : ℕ). eqb x i) (target-row j l))
+      ∙ count-ends t d o beside ts es c s (λ x. eqb (targetOf (d .table) x) i) (λ j. eqb (at (es .target) j) i) (λ j l. ap (λ (x : ℕ). eqb x i) (target-row j l))
 
   edge-rows : (e : ℕ) → count (λ x. eqb (lastEdge x) e) (takenEnds d c) ≡ seats (es .edge) (es .count) c e
   unfolding seats
-  edge-rows e = count-ends t d o links ts es c s (λ x. eqb (lastEdge x) e) (λ j. eqb (at (es .edge) j) e) (λ j l. ap (λ (x : ℕ). eqb x e) (last-row j l))
+  edge-rows e = count-ends t d o beside ts es c s (λ x. eqb (lastEdge x) e) (λ j. eqb (at (es .edge) j) e) (λ j l. ap (λ (x : ℕ). eqb x e) (last-row j l))
 
-  module _ (runs stock : List ℕ) (m : Told t (d .current) runs stock) where
+  module _ (runs stock : List ℕ) (m : MarkingTold t (d .current) runs stock) where
     action-rows : (i : ℕ) → i < nodes t → isAction (kind t i) ≡ true → actionAgrees d c i ≡ actionFits (d .table) (es .edge) (es .target) (es .home) runs stock (es .count) c i
     unfolding actionFits
     action-rows i l a =

@@ -19,7 +19,7 @@ use Rattle.paper.proofs.Bits.{no-digit}
 use Rattle.paper.proofs.Digits.{has-zero}
 use Rattle.offers.specs.Sets.{nth, Means}
 use Rattle.offers.specs.Rows.{isOffer}
-use Rattle.offers.specs.Struct.{rowsOf}
+use Rattle.offers.specs.Struct.{Beside, rowsOf}
 use Rattle.offers.specs.declared.Offers.{Offers}
 use Rattle.ends_masks.specs.declared.Ends.{Ends}
 use Rattle.offers.proofs.Sets.{number}
@@ -73,7 +73,7 @@ first-word ts (over o e) w i m =
 first-word ts (with o p) w i m = never false i refl
 
 -- ---- a seated board
-module _ (t : List ℕ) (d : Board) (o : Offers) (links : List ℕ) (ts : List Offer) (es : Ends) (c : ℕ) (s : Seated t d (rowsOf o links) ts es) where
+module _ (t : List ℕ) (d : Board) (o : Offers) (beside : Beside) (ts : List Offer) (es : Ends) (c : ℕ) (s : Seated t d (rowsOf o beside) ts es) where
   -- a test of taken ends, as a test of their numbers
   pub any-ends : (p : Offer → Bool) (q : ℕ → Bool) → ((k : ℕ) → k < es .count → p (nth ts (at (es .row) k)) ≡ q k) → any p (takenEnds d c) ≡ any (λ k. has c k && q k) (below (es .count))
   any-ends p q h =

@@ -1,7 +1,7 @@
 -- The ends of a board by value: each is a row of the offer list. The paper's rules on choices, said of rows and of the columns of ends.
 -- A choice is a number; end k is taken if its digit k is 1. Assumes nothing.
 use mathlib.Core.Path.{_≡_}
-use Prim.Native.Nat.{ℕ, _+_, _≤_, _<_}
+use Prim.Native.Nat.{ℕ, _+_, _%_, _≤_, _<_}
 use mathlib.Core.Bool.{Bool, true, not, _&&_, _||_, cond}
 use mathlib.Core.List.{List, [], _∷_}
 use mathlib.Core.Option.{Option}
@@ -15,9 +15,9 @@ use Rattle.paper.specs.Table.{nodes, edges, kind, owner, lower, upper, into, in
 use Rattle.paper.specs.Marking.{Marking}
 use Rattle.paper.specs.Offers.{Offer, elem}
 use Rattle.paper.specs.Choices.{Board, howMany, end}
-use Rattle.offers.specs.Sets.{nth, meets}
-use Rattle.offers.specs.Rows.{Rows, Holds}
-use Rattle.offers.specs.Struct.{rowsOf}
+use Rattle.offers.specs.Sets.{nth, wordsClash}
+use Rattle.offers.specs.Rows.{Rows, rowsIn, cell, Holds}
+use Rattle.offers.specs.Struct.{Beside, rowsOf}
 use Rattle.offers.specs.declared.Offers.{Offers}
 use Rattle.ends_masks.specs.declared.Ends.{Ends}
 
@@ -27,28 +27,34 @@ pub record Rowed (ends : List ℕ) (n rows : ℕ) : Type 0 where
   pub many : n ≤ length ends
   pub each-inside : (k : ℕ) → k < n → at ends k < rows
 
--- the columns of the ends: last edge, target, and the node that a target belongs to, its action for a pin and itself for others
-pub record Columns (t last ends edge target home : List ℕ) (n : ℕ) : Type 0 where
-  pub edges-are : (k : ℕ) → k < n → at edge k ≡ at last (at ends k)
+-- the first n ends can be seated: they are rows in the cells m, and each one's last edge, as a byte says it, is one of so many
+pub record Seatable (m ends : List ℕ) (n edges : ℕ) : Type 0 where
+  pub rowed : Rowed ends n (limits .mostOffers)
+  pub cells-there : 1024 ≤ length m
+  pub lasts : (k : ℕ) → k < n → rowsIn m 0 .entry (at ends k) .last % 256 < edges
+
+-- the columns of the ends, rows in the cells m: last edge, target, and the node that a target belongs to, its action for a pin and itself for others
+pub record Columns (t m ends edge target home : List ℕ) (n : ℕ) : Type 0 where
+  pub edges-are : (k : ℕ) → k < n → at edge k ≡ rowsIn m 0 .entry (at ends k) .last % 256
   pub targets-are : (k : ℕ) → k < n → at target k ≡ targetOfEdge t (at edge k)
   pub homes-are : (k : ℕ) → k < n → at home k ≡ cond (isPin (kind t (at target k))) (owner t (at target k)) (at target k)
 
 -- the arrays have the lengths that they are declared with, which their types as lists don't say, and there are no more ends than those
 pub record EndsFull (e : Ends) : Type 0 where
-  pub rows-full : length (e .row) ≡ 20
-  pub edges-full : length (e .edge) ≡ 20
-  pub targets-full : length (e .target) ≡ 20
-  pub homes-full : length (e .home) ≡ 20
-  pub makers-full : length (e .makers) ≡ 20
-  pub foes-full : length (e .foes) ≡ 20
-  pub few : e .count ≤ 20
+  pub rows-full : length (e .row) ≡ limits .mostEnds
+  pub edges-full : length (e .edge) ≡ limits .mostEnds
+  pub targets-full : length (e .target) ≡ limits .mostEnds
+  pub homes-full : length (e .home) ≡ limits .mostEnds
+  pub makers-full : length (e .makers) ≡ limits .mostEnds
+  pub foes-full : length (e .foes) ≡ limits .mostEnds
+  pub few : e .count ≤ limits .mostEnds
 
--- the ends e are the rows `ends` of the list with these columns
-pub record EndsSeated (t last makers foes ends : List ℕ) (e : Ends) : Type 0 where
+-- the ends e are the rows `ends` in the cells m
+pub record EndsSeated (t m ends : List ℕ) (e : Ends) : Type 0 where
   pub rows-are : (k : ℕ) → k < e .count → at (e .row) k ≡ at ends k
-  pub columns : Columns t last ends (e .edge) (e .target) (e .home) (e .count)
-  pub makers-are : (k : ℕ) → k < e .count → at (e .makers) k ≡ at makers (at ends k)
-  pub foes-are : (k : ℕ) → k < e .count → at (e .foes) k ≡ at foes (at ends k)
+  pub columns : Columns t m ends (e .edge) (e .target) (e .home) (e .count)
+  pub makers-are : (k : ℕ) → k < e .count → at (e .makers) k ≡ cell m (at ends k) 6
+  pub foes-are : (k : ℕ) → k < e .count → at (e .foes) k ≡ cell m (at ends k) 7
 
 -- the rows r hold the offers of the board d, as the trees ts, and the ends e are d's
 pub record Seated (t : List ℕ) (d : Board) (r : Rows) (ts : List Offer) (e : Ends) : Type 0 where
@@ -56,7 +62,7 @@ pub record Seated (t : List ℕ) (d : Board) (r : Rows) (ts : List Offer) (e : E
   pub holds-ts : Holds t r ts
   pub offers-are : (x : Offer) → elem x ts ≡ elem x (d .allOffers)
   pub number : e .count ≡ howMany d
-  pub few : e .count ≤ 20
+  pub few : e .count ≤ limits .mostEnds
   pub inside : (k : ℕ) → k < e .count → at (e .row) k < length ts
   pub ends-are : (k : ℕ) → k < e .count → nth ts (at (e .row) k) ≡ end d k
   pub edges-are : (k : ℕ) → k < e .count → at (e .edge) k ≡ r .entry (at (e .row) k) .last
@@ -67,31 +73,31 @@ pub record Seated (t : List ℕ) (d : Board) (r : Rows) (ts : List Offer) (e : E
   pub foes-are : (k : ℕ) → k < e .count → at (e .foes) k ≡ r .entry (at (e .row) k) .foes
 
 -- runs and stock are what the marking m says of the actions and the object nodes of the table t
-pub record Told (t : List ℕ) (m : Marking) (runs stock : List ℕ) : Type 0 where
+pub record MarkingTold (t : List ℕ) (m : Marking) (runs stock : List ℕ) : Type 0 where
   pub table-fine : tableFine t limits ≡ good tt
   pub running : (i : ℕ) → i < nodes t → isAction (kind t i) ≡ true → at runs i ≡ oneIf (m .runs i)
   pub stocks : (i : ℕ) → i < nodes t → isObjectNode (kind t i) ≡ true → at stock i ≡ length (m .stock i)
 
--- the board d stands in the offers o with some links, in the ends e, and in what its marking says of actions and stocks, none of which is over its upper
+-- the board d stands in the offers o with what is beside them, in the ends e, and in what its marking says of actions and stocks, none of which is over its upper
 pub record Stands (t : List ℕ) (d : Board) (o : Offers) (e : Ends) (runs stock : List ℕ) : Type 0 where
-  pub links : List ℕ
+  pub beside : Beside
   pub trees : List Offer
-  pub seated : Seated t d (rowsOf o links) trees e
-  pub told : Told t (d .current) runs stock
+  pub seated : Seated t d (rowsOf o beside) trees e
+  pub told : MarkingTold t (d .current) runs stock
   pub roomy : (i : ℕ) → length (d .current .stock i) ≤ upper t i
 
 -- ---- rule 1
 module _ (foes makers : List ℕ) where
   -- ends k and j compete
   abbrev pub rival : ℕ → ℕ → Bool
-  rival k j = not (eqb j k) && meets (at foes k) (at makers k) (at foes j) (at makers j)
+  rival k j = not (eqb j k) && wordsClash (at foes k) (at makers k) (at foes j) (at makers j)
 
   -- end k competes with a taken one
   unfoldable pub rivalled : ℕ → ℕ → ℕ → Bool
   rivalled n c k = any (λ j. has c j && rival k j) (below n)
 
-  unfoldable pub apart : ℕ → ℕ → Option ℕ
-  apart n c = lowest (λ k. has c k && rivalled n c k) n
+  unfoldable pub firstRivalled : ℕ → ℕ → Option ℕ
+  firstRivalled n c = lowest (λ k. has c k && rivalled n c k) n
 
 -- ---- rule 2
 -- row y is a maker of a taken end
@@ -148,12 +154,12 @@ unfoldable pub destinationsFit : List ℕ → List ℕ → List ℕ → List ℕ
 destinationsFit t edge target home runs stock n c = all (fits t edge target home runs stock n c) (below (nodes t))
 
 module _ (t : List ℕ) (o : Offers) (e : Ends) (runs stock : List ℕ) where
-  abbrev pub rowRules : List (ℕ → Bool)
-  rowRules =
+  abbrev pub rowTests : List (ℕ → Bool)
+  rowTests =
       noRivals (e .foes) (e .makers) (e .count)
       ∷ forksWhole t (o .node) (o .parents) (e .makers) (o .count) (e .count)
       ∷ destinationsFit t (e .edge) (e .target) (e .home) runs stock (e .count) ∷ []
 
   -- the choice c is acceptable
   unfoldable pub allowed : ℕ → Bool
-  allowed c = all (λ rule. rule c) rowRules
+  allowed c = all (λ rule. rule c) rowTests

@@ -12,7 +12,9 @@ ghost use Rattle.paper.specs.Answers.{good};
 ghost use Rattle.paper.specs.Table.{kind, owner, isPin};
 ghost use Rattle.table.specs.Reading.{tableRead};
 ghost use Rattle.offers.specs.Sets.{Marks};
-ghost use Rattle.ends_masks.specs.Seating.{Columns, Rowed, EndsFull, EndsSeated, rival, siblings, makes};
+ghost use Rattle.offers.specs.Rows.{cell};
+ghost use Rattle.ends_masks.specs.Seating.{Columns, Rowed, Seatable, EndsFull, EndsSeated, rival, siblings, makes};
+ghost use Rattle.paper.specs.Limits.{limits};
 use offers::MOST_ENDS;
 use table::Table;
 
@@ -45,19 +47,19 @@ fn home_of(t: &[u8], table: Table, i: usize) -> u8
 fn columns(
     t: &[u8],
     table: Table,
-    last: &[u8],
+    rows: &[u64],
     ends: &[u8],
     n: usize,
     edge: &mut [u8],
     target: &mut [u8],
     home: &mut [u8],
 )
-    requires { ⌜ (tableRead (now t) ≡ good table) × Rowed (now ends) n (length (now last)) × ((k : ℕ) → k < n → at (now last) (at (now ends) k) < table .edges) × (n ≤ length (now edge)) × (n ≤ length (now target)) × (n ≤ length (now home)) ⌝ }
-    ensures { λ _. ⌜ Columns (now (t .entry)) (now (last .entry)) (now (ends .entry)) (now (edge .exit)) (now (target .exit)) (now (home .exit)) n ⌝ }
+    requires { ⌜ (tableRead (now t) ≡ good table) × Seatable (now rows) (now ends) n (table .edges) × (n ≤ length (now edge)) × (n ≤ length (now target)) × (n ≤ length (now home)) ⌝ }
+    ensures { λ _. ⌜ Columns (now (t .entry)) (now (rows .entry)) (now (ends .entry)) (now (edge .exit)) (now (target .exit)) (now (home .exit)) n ⌝ }
 {
     let mut k: usize = 0;
     while k < n {
-        let e = last[wire::wide(ends[k])];
+        let e = offers::last_of(rows, wire::wide(ends[k]));
         let to = table.target(t, wire::wide(e));
         edge[k] = e;
         target[k] = to as u8;
@@ -66,15 +68,15 @@ fn columns(
     }
 }
 
-// Each end's word of a column of words.
-fn words_of(column: &[u64], ends: &[u8], n: usize) -> [u64; MOST_ENDS]
-    requires { ⌜ Rowed (now ends) n (length (now column)) × (n ≤ 20) ⌝ }
-    ensures { λ r. ⌜ (length r ≡ 20) × ((k : ℕ) → k < n → at r k ≡ at (now (column .entry)) (at (now (ends .entry)) k)) ⌝ }
+// Cell i of each end's row.
+fn words_of(rows: &[u64], i: usize, ends: &[u8], n: usize) -> [u64; MOST_ENDS]
+    requires { ⌜ Rowed (now ends) n (limits .mostOffers) × (1024 ≤ length (now rows)) × (i < 8) × (n ≤ limits .mostEnds) ⌝ }
+    ensures { λ r. ⌜ (length r ≡ limits .mostEnds) × ((k : ℕ) → k < n → at r k ≡ cell (now (rows .entry)) (at (now (ends .entry)) k) i) ⌝ }
 {
     let mut to = [0u64; MOST_ENDS];
     let mut k: usize = 0;
     while k < n {
-        to[k] = column[wire::wide(ends[k])];
+        to[k] = rows[offers::WIDTH * wire::wide(ends[k]) + i];
         k += 1;
     }
     to
@@ -82,8 +84,8 @@ fn words_of(column: &[u64], ends: &[u8], n: usize) -> [u64; MOST_ENDS]
 
 // Each end's row.
 fn rows_of(ends: &[u8], n: usize) -> [u8; MOST_ENDS]
-    requires { ⌜ (n ≤ length (now ends)) × (n ≤ 20) ⌝ }
-    ensures { λ r. ⌜ (length r ≡ 20) × ((k : ℕ) → k < n → at r k ≡ at (now (ends .entry)) k) ⌝ }
+    requires { ⌜ (n ≤ length (now ends)) × (n ≤ limits .mostEnds) ⌝ }
+    ensures { λ r. ⌜ (length r ≡ limits .mostEnds) × ((k : ℕ) → k < n → at r k ≡ at (now (ends .entry)) k) ⌝ }
 {
     let mut to = [0u8; MOST_ENDS];
     let mut k: usize = 0;
@@ -94,30 +96,22 @@ fn rows_of(ends: &[u8], n: usize) -> [u8; MOST_ENDS]
     to
 }
 
-// The n ends that are the rows `ends` of the offer list, whose columns are lent.
-pub fn seat(
-    t: &[u8],
-    table: Table,
-    last: &[u8],
-    makers: &[u64],
-    foes: &[u64],
-    ends: &[u8],
-    n: usize,
-) -> Ends
-    requires { ⌜ (tableRead (now t) ≡ good table) × Rowed (now ends) n (length (now last)) × ((k : ℕ) → k < n → at (now last) (at (now ends) k) < table .edges) × Rowed (now ends) n (length (now makers)) × Rowed (now ends) n (length (now foes)) × (n ≤ 20) ⌝ }
-    ensures { λ r. ⌜ EndsFull r × (r .count ≡ n) × EndsSeated (now (t .entry)) (now (last .entry)) (now (makers .entry)) (now (foes .entry)) (now (ends .entry)) r ⌝ }
+// The n ends that are the rows `ends` of the offer list, whose cells are lent.
+pub fn seat(t: &[u8], table: Table, rows: &[u64], ends: &[u8], n: usize) -> Ends
+    requires { ⌜ (tableRead (now t) ≡ good table) × Seatable (now rows) (now ends) n (table .edges) × (n ≤ limits .mostEnds) ⌝ }
+    ensures { λ r. ⌜ EndsFull r × (r .count ≡ n) × EndsSeated (now (t .entry)) (now (rows .entry)) (now (ends .entry)) r ⌝ }
 {
     let mut edge = [0u8; MOST_ENDS];
     let mut target = [0u8; MOST_ENDS];
     let mut home = [0u8; MOST_ENDS];
-    columns(t, table, last, ends, n, &mut edge, &mut target, &mut home);
+    columns(t, table, rows, ends, n, &mut edge, &mut target, &mut home);
     Ends {
         row: rows_of(ends, n),
         edge: edge,
         target: target,
         home: home,
-        makers: words_of(makers, ends, n),
-        foes: words_of(foes, ends, n),
+        makers: words_of(rows, offers::MAKERS, ends, n),
+        foes: words_of(rows, offers::FOES, ends, n),
         count: n,
     }
 }
@@ -137,7 +131,7 @@ fn mark(w: u64, k: usize, on: bool) -> u64
 
 // The ends that have x in a column.
 pub fn same(column: &[u8], n: usize, x: usize) -> u32
-    requires { ⌜ (n ≤ length (now column)) × (n ≤ 20) ⌝ }
+    requires { ⌜ (n ≤ length (now column)) × (n ≤ limits .mostEnds) ⌝ }
     ensures { λ r. ⌜ Marks (λ k. eqb (at (now (column .entry)) k) x) n r ⌝ }
 {
     let mut w: u64 = 0;
@@ -151,7 +145,7 @@ pub fn same(column: &[u8], n: usize, x: usize) -> u32
 
 // The ends that have a row of the word w among their makers.
 pub fn made(makers: &[u64], n: usize, rows: u64) -> u32
-    requires { ⌜ (n ≤ length (now makers)) × (n ≤ 20) ⌝ }
+    requires { ⌜ (n ≤ length (now makers)) × (n ≤ limits .mostEnds) ⌝ }
     ensures { λ r. ⌜ Marks (λ k. not (eqb (bitAnd (at (now (makers .entry)) k) rows) 0)) n r ⌝ }
 {
     let mut w: u64 = 0;
@@ -176,7 +170,7 @@ fn are_rivals(foes: &[u64], makers: &[u64], k: usize, j: usize) -> bool
 
 // The ends that compete with end k.
 pub fn rivals(foes: &[u64], makers: &[u64], n: usize, k: usize) -> u32
-    requires { ⌜ (n ≤ length (now foes)) × (n ≤ length (now makers)) × (k < n) × (n ≤ 20) ⌝ }
+    requires { ⌜ (n ≤ length (now foes)) × (n ≤ length (now makers)) × (k < n) × (n ≤ limits .mostEnds) ⌝ }
     ensures { λ r. ⌜ Marks (rival (now (foes .entry)) (now (makers .entry)) k) n r ⌝ }
 {
     let mut w: u64 = 0;
@@ -201,7 +195,7 @@ fn are_siblings(node: &[u8], parents: &[u64], y: usize, z: usize) -> bool
 
 // The rows that leave the same node as row z and were made from an offer in common with it.
 pub fn family(node: &[u8], parents: &[u64], rows: usize, z: usize) -> u64
-    requires { ⌜ (rows ≤ length (now node)) × (rows ≤ length (now parents)) × (rows ≤ 64) × (z < rows) ⌝ }
+    requires { ⌜ (rows ≤ length (now node)) × (rows ≤ length (now parents)) × (rows ≤ limits .mostOffers) × (z < rows) ⌝ }
     ensures { λ r. ⌜ Marks (λ y. siblings (now (node .entry)) (now (parents .entry)) y z) rows r ⌝ }
 {
     let mut w: u64 = 0;
@@ -226,7 +220,7 @@ fn makers_if_taken(makers: &[u64], c: u32, k: usize) -> u64
 
 // The rows that are makers of taken ends.
 pub fn all_makers(makers: &[u64], n: usize, c: u32) -> u64
-    requires { ⌜ (n ≤ length (now makers)) × (n ≤ 20) ⌝ }
+    requires { ⌜ (n ≤ length (now makers)) × (n ≤ limits .mostEnds) ⌝ }
     ensures { λ r. ⌜ ((y : ℕ) → has r y ≡ makes (now (makers .entry)) n c y) ⌝ }
 {
     let mut w: u64 = 0;

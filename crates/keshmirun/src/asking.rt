@@ -1,40 +1,97 @@
-// What is asked about a board, by sheet, pick, why and step: the board is read once, for whichever of them asks. How far a search goes is asked here too.
-// The table's bytes were read as a table.
+// What is asked about a board, by sheet, pick, why and step: the marking and the terms are read, the board is laid over what is held, and the request is
+// answered on it. How far a search goes is asked here too. The table's bytes were read as a table.
 use ends::EndsAnswer;
-use ends_masks::Ends;
-use offers::Offers;
+use marking::MarkingAnswer;
+use marking_held::Held;
 use table::Table;
+use terms::TermsAnswer;
 ghost use mathlib.Core.Path.{_≡_};
-ghost use Prim.Native.Nat.{ℕ, _≤_, _<_};
-ghost use Rattle.paper.specs.Lists.{at};
 ghost use Rattle.paper.specs.Answers.{good};
 ghost use Rattle.paper.specs.Offers.{terms};
 ghost use Rattle.table.specs.Reading.{tableRead};
-ghost use Rattle.offers.specs.Struct.{Full};
-ghost use Rattle.ends_masks.specs.Seating.{Rowed, EndsFull, EndsSeated};
-ghost use Rattle.keshmirun.specs.Asking.{Responds};
+ghost use Rattle.terms.specs.Terms.{termsFine};
+ghost use Rattle.marking_held.specs.MarkingHeld.{LiveMarking};
+ghost use Rattle.keshmirun.specs.Asking.{shows, Responds};
 
-// The sheet, the pick for a node, the reason for a node, the step by a choice, or how many states the search for a node visits, k levels past the first.
-pub enum Request {
-    Sheet,
+// What is asked of the choices of a board: the pick for a node, the reason for a node, the step by a choice, or how many states the search for a node visits,
+// k levels past the first.
+pub enum Query {
     Pick(u8),
     Why(u8),
     Step,
     Count(u8, usize),
 }
 
-// The n ends that are these rows of the offers, by value.
-fn seated(t: &[u8], table: Table, offers: Offers, ends: &[u8], n: usize) -> Ends
-    requires { ⌜ (tableRead (now t) ≡ good table) × Full offers × Rowed (now ends) n 64 × ((k : ℕ) → k < n → at (offers .last) (at (now ends) k) < table .edges) × (n ≤ 20) ⌝ }
-    ensures { λ r. ⌜ EndsFull r × (r .count ≡ n) × EndsSeated (now (t .entry)) (offers .last) (offers .makers) (offers .foes) (now (ends .entry)) r ⌝ }
-{
-    let last = offers.last;
-    let makers = offers.makers;
-    let foes = offers.foes;
-    ends_masks::seat(t, table, &last, &makers, &foes, ends, n)
+// The sheet, or what is asked of choices.
+pub enum Request {
+    Sheet,
+    Choice(Query),
 }
 
-// The board of a marking, guards and bounds is read, and the request answered.
+// Whether the ends' paths are shown.
+fn is_shown(request: Request) -> bool
+    ensures { λ r. ⌜ r ≡ shows request ⌝ }
+{
+    match request {
+        Request::Sheet => true,
+        Request::Choice(_) => false,
+    }
+}
+
+// The board is laid over what is held, and the request answered.
+fn respond(
+    t: &[u8],
+    table: Table,
+    b: &[u8],
+    held: Held,
+    g: &[u8],
+    bounds: &[u8],
+    request: Request,
+    choice: &[u8],
+    out: &mut [u8],
+) -> u64
+    requires { ⌜ (tableRead (now t) ≡ good table) × LiveMarking (now t) (now b) held × (termsFine (now t) (now g) (now bounds) ≡ good tt) ⌝ }
+    ensures { λ r. ⌜ Responds request (now (t .entry)) (now (b .entry)) (terms (now (g .entry)) (now (bounds .entry))) (now (choice .entry)) r (now (out .entry)) (now (out .exit)) ⌝ }
+{
+    let mut rows = [0u64; offers::CELLS];
+    let mut found = [0u8; offers::MOST_ENDS];
+    let mut order = [0u8; ends_paths::BLOCKS];
+    let mut lens = [0u8; ends_paths::BLOCKS];
+    let mut cells = [0u8; ends_paths::CELLS];
+    let board = board::lay(
+        t,
+        table,
+        b,
+        held,
+        g,
+        bounds,
+        is_shown(request),
+        &mut rows,
+        &mut found,
+        &mut order,
+        &mut lens,
+        &mut cells,
+    );
+    let answer = board.answer;
+    let n = match answer {
+        EndsAnswer::Good(n) => n,
+        EndsAnswer::Refused(number, place) => return wire::pack(number, place, 0),
+    };
+    let asked = match request {
+        Request::Sheet => return sheet_write::show(&rows, &found, &order, &lens, &cells, n, out),
+        Request::Choice(asked) => asked,
+    };
+    let ends = ends_masks::seat(t, table, &rows, &found, n);
+    let offers = offers_all::assemble(&rows, board.offers);
+    match asked {
+        Query::Pick(node) => pick::pick(t, table, offers, ends, held, node, out),
+        Query::Why(node) => why::why(t, table, offers, ends, held, node, out),
+        Query::Step => step::step(t, table, b, choice, offers, ends, held, out),
+        Query::Count(node, k) => why::states(t, table, offers, ends, held, node, k) as u64,
+    }
+}
+
+// The marking and the terms are read (rows 5 to 7, and 18), and the request answered.
 pub fn ask(
     t: &[u8],
     table: Table,
@@ -48,43 +105,15 @@ pub fn ask(
     requires { ⌜ tableRead (now t) ≡ good table ⌝ }
     ensures { λ r. ⌜ Responds request (now (t .entry)) (now (b .entry)) (terms (now (g .entry)) (now (bounds .entry))) (now (choice .entry)) r (now (out .entry)) (now (out .exit)) ⌝ }
 {
-    let mut rows = [0u8; offers::MOST_ENDS];
-    let mut order = [0u8; ends_paths::BLOCKS];
-    let mut lens = [0u8; ends_paths::BLOCKS];
-    let mut cells = [0u8; ends_paths::CELLS];
-    let board = board::read(
-        t,
-        table,
-        b,
-        g,
-        bounds,
-        &mut rows,
-        &mut order,
-        &mut lens,
-        &mut cells,
-    );
-    let answer = board.answer;
-    let n = match answer {
-        EndsAnswer::Good(n) => n,
-        EndsAnswer::Refused(number, place) => return wire::pack(number, place, 0),
-    };
-    match request {
-        Request::Sheet => sheet_write::show(board.offers, &rows, &order, &lens, &cells, n, out),
-        Request::Pick(node) => {
-            let ends = seated(t, table, board.offers, &rows, n);
-            pick::pick(t, table, board.offers, ends, board.held, node, out)
-        }
-        Request::Why(node) => {
-            let ends = seated(t, table, board.offers, &rows, n);
-            why::why(t, table, board.offers, ends, board.held, node, out)
-        }
-        Request::Step => {
-            let ends = seated(t, table, board.offers, &rows, n);
-            step::step(t, table, b, choice, board.offers, ends, board.held, out)
-        }
-        Request::Count(node, k) => {
-            let ends = seated(t, table, board.offers, &rows, n);
-            why::states(t, table, board.offers, ends, board.held, node, k) as u64
-        }
+    let reading = marking_held::read_up(t, table, b);
+    let live = reading.answer;
+    match live {
+        MarkingAnswer::Live => {}
+        MarkingAnswer::Ended => return wire::pack(6, 0, 0),
+        MarkingAnswer::Refused(number, place) => return wire::pack(number, place, 0),
     }
+    if let TermsAnswer::Refused(number, place) = terms::read(t, table, g, bounds) {
+        return wire::pack(number, place, 0);
+    }
+    respond(t, table, b, reading.held, g, bounds, request, choice, out)
 }

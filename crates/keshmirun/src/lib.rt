@@ -2,6 +2,7 @@
 // Assumes nothing: what is lent is judged here.
 mod asking;
 
+use asking::Query;
 use asking::Request;
 use asking::ask;
 use table::TableAnswer;
@@ -87,7 +88,7 @@ pub extern "C" fn pick(
         marking,
         guards,
         bounds,
-        Request::Pick(node),
+        Request::Choice(Query::Pick(node)),
         b"",
         out,
     )
@@ -116,7 +117,7 @@ pub extern "C" fn why(
         marking,
         guards,
         bounds,
-        Request::Why(node),
+        Request::Choice(Query::Why(node)),
         b"",
         out,
     )
@@ -138,7 +139,7 @@ pub fn visits(table: &[u8], marking: &[u8], guards: &[u8], bounds: &[u8], node: 
         marking,
         guards,
         bounds,
-        Request::Count(node, k),
+        Request::Choice(Query::Count(node, k)),
         b"",
         &mut nothing,
     )
@@ -166,7 +167,7 @@ pub extern "C" fn step(
         marking,
         guards,
         bounds,
-        Request::Step,
+        Request::Choice(Query::Step),
         choice,
         out,
     )

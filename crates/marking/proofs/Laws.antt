@@ -1,4 +1,4 @@
--- Laws of reading at a place: what a field's reader answers, and what is then noted. Assumes nothing.
+-- Laws of reading at a place: what a field's reader answers, and what is then taken up. Assumes nothing.
 use mathlib.Core.Path.{_≡_, refl, sym, ap, ap₂, _∙_}
 use Prim.Native.Nat.{ℕ, suc, _+_, _-_, _*_, _≤_, _<_}
 use native.Mathlib.Omega.{arith}
@@ -6,8 +6,8 @@ use mathlib.Core.Bool.{Bool, true, false, not, _&&_, _||_, cond}
 use mathlib.Core.List.{List, [], _∷_, _++_, append-nil}
 use mathlib.Core.Option.{Option, none, some}
 use lib.Dec.{leb, ltb, eqb}
-use lib.ListN.{length, drop, set, length-drop}
-use lib.Seq.{getD-set-same, getD-set-other, getD-drop}
+use lib.ListN.{length, drop, set, length-drop, length-append}
+use lib.Seq.{getD-set-same, getD-set-other, getD-drop, take-at, drop-cons}
 use borrow.Author.Tests.{eq-eqb, ne-eqb, eqb-true, eqb-false, ltb-true, le-leb, lt-leb}
 use Rattle.paper.specs.Lists.{at, all, from, below, keep, each, gather, oneIf, _⇒_}
 use Rattle.paper.specs.Answers.{refused, good}
@@ -21,11 +21,12 @@ use Rattle.paper.proofs.Fields.{fields-append, node-once, node-only, not-both}
 use Rattle.paper.proofs.Bools.{never, and-true}
 use Rattle.paper.proofs.Lists.{below-more, below-split}
 use Rattle.paper.specs.Limits.{limits}
-use Rattle.paper.proofs.Tables.{NodeFields}
-use Rattle.paper.proofs.Bytes.{Bytes, never-some, same-read, went-on}
+use Rattle.paper.proofs.Tables.{NodeFields, upper-fits}
+use Rattle.paper.proofs.Bytes.{Bytes, never-some, same-read, went-on, length-listed}
 use Rattle.paper.proofs.Cursor.{byte-at, byte-none}
 use Rattle.paper.proofs.OneMarking.{Taken, fields-are, contentRead, put, put-ended, field-reads}
-use Rattle.marking.specs.Reading.{Reads, NodeNoted, EdgeNoted, NodesNoted, EdgesNoted, NodesPlaced, EdgesPlaced, edgeFields, nodeClear, edgeClear, Head, Walked, Walk, said, MarkingRead}
+use Rattle.marking.specs.Reading.{Reads, NodeRead, EdgeRead, NodesRead, EdgesRead, edgeFields, nodeClear, edgeClear, Head, Walked, Walk, said, MarkingRead}
+use Rattle.marking.specs.Values.{ValuesNoted}
 use Rattle.marking.specs.declared.reading.MarkingAnswer.{MarkingAnswer}
 use Rattle.marking.specs.declared.reading.Next.{Next}
 use Rattle.marking.specs.declared.reading.Next.the-variants.{At, Bad}
@@ -57,62 +58,130 @@ numbered i (tokensOf n) = eqb n i
 other-field : (i : ℕ) (g f : Field) → numbered i g ≡ false → numbered i f ≡ true → g ≡ f → ⊥
 other-field i g f n y e = never (numbered i f) y (ap (numbered i) (sym e) ∙ n)
 
--- ---- a run of fields, F i the i-th, each noted where it was read: N m i p, where m is the marking so far and p the place
-pub record Run (t b : List ℕ) (F : ℕ → List Field) (N : Marking → ℕ → ℕ → Type 0) : Type 0 where
-  pub once : (i : ℕ) → Distinct (F i)
-  pub here : (i p q : ℕ) (a m : Marking) → Taken t (F i) a (drop p b) m (drop q b) → N m i p
-  pub still : (i k p : ℕ) (a m : Marking) (c d : List ℕ) → eqb k i ≡ false → Taken t (F i) a c m d → N a k p → N m k p
-
--- from marking a and place o on, the first i are read into m, and the bytes after them start at p
-pub record SoFar (t b : List ℕ) (F : ℕ → List Field) (N : Marking → ℕ → ℕ → Type 0) (a : Marking) (o : ℕ) (places : List ℕ) (p i : ℕ) : Type 0 where
+-- ---- a run of fields, F i the i-th
+-- from marking a and place o on, the first i are read into m, the bytes after them start at p, and of each that was read N m k is known
+pub record SoFar (t b : List ℕ) (F : ℕ → List Field) (N : Marking → ℕ → Type 0) (a : Marking) (o p i : ℕ) : Type 0 where
   pub m : Marking
   pub read : fieldsRead t (gather F (below i)) a (drop o b) ≡ some (m, drop p b)
-  pub noted : (k : ℕ) → k < i → N m k (at places k)
+  pub known : (k : ℕ) → k < i → N m k
 
-module _ {t b : List ℕ} {F : ℕ → List Field} {N : Marking → ℕ → ℕ → Type 0} (r : Run t b F N) (a : Marking) (o : ℕ) where
-  pub run-begin : (places : List ℕ) → SoFar t b F N a o places o 0
-  run-begin places = record { m = a; read = refl; noted = λ k l. absurd (omega arith) }
+module _ {t b : List ℕ} {F : ℕ → List Field} {N : Marking → ℕ → Type 0} (a : Marking) (o : ℕ) where
+  pub run-begin : SoFar t b F N a o o 0
+  run-begin = record { m = a; read = refl; known = λ k l. absurd (omega arith) }
 
-  pub run-step : Bytes b → (places : List ℕ) (p q i : ℕ) → i < length places → SoFar t b F N a o places p i
-      → ((m : Marking) → Reads (At q) (fieldsRead t (F i) m (drop p b)) b) → SoFar t b F N a o (set places i p) q (i + 1)
-  run-step u places p q i l s h =
+  -- one field more: what is known then is known of it, and still of the others
+  run-step : {N′ : Marking → ℕ → Type 0} {p q i : ℕ} → Distinct (F i) → Bytes b
+      → ((a m : Marking) → Taken t (F i) a (drop p b) m (drop q b) → N′ m i)
+      → ((k : ℕ) (a m : Marking) → eqb k i ≡ false → Taken t (F i) a (drop p b) m (drop q b) → N a k → N′ m k)
+      → SoFar t b F N a o p i → ((m : Marking) → Reads (At q) (fieldsRead t (F i) m (drop p b)) b) → SoFar t b F N′ a o q (i + 1)
+  run-step {N′} {p} {q} {i} once u here still s h =
       let x = h (s .m) in
-      let w = fields-are t (F i) (s .m) (drop p b) (x .0) (drop q b) (r .once i) (λ k. rw (getD-drop p b k 0) (u (p + k))) (x .1) in
+      let w = fields-are t (F i) (s .m) (drop p b) (x .0) (drop q b) once (λ k. rw (getD-drop p b k 0) (u (p + k))) (x .1) in
       record {
         m = x .0;
         read = rw (below-more i, gather-append F (below i) (i ∷ []), append-nil (F i), fields-append, s .read) (x .1);
-        noted = λ k n. by k (eqb k i) refl n (s .m) (x .0) w (s .noted);
+        known = λ k n. by k (eqb k i) refl n (s .m) (x .0) w (s .known);
       }
     where
-      by : (k : ℕ) (c : Bool) → eqb k i ≡ c → k < i + 1 → (a m : Marking) → Taken t (F i) a (drop p b) m (drop q b) → ((k : ℕ) → k < i → N a k (at places k)) → N m k (at (set places i p) k)
-      by k true e n a m w z = rw (eqb-true k i e, getD-set-same places i p 0 l) (r .here i p q a m w)
-      by k false e n a m w z =
-          let d : k ≡ i → ⊥ = eqb-false k i e in
-          rw (getD-set-other places i k p 0 d) (r .still i k (at places k) a m _ _ e w (z k (omega arith)))
+      by : (k : ℕ) (c : Bool) → eqb k i ≡ c → k < i + 1 → (a m : Marking) → Taken t (F i) a (drop p b) m (drop q b) → ((k : ℕ) → k < i → N a k) → N′ m k
+      by k true e n a m w z = rw (eqb-true k i e) (here a m w)
+      by k false e n a m w z = let d : k ≡ i → ⊥ = eqb-false k i e in still k a m e w (z k (omega arith))
 
-  pub run-cut : (places : List ℕ) (p i n : ℕ) → i < n → SoFar t b F N a o places p i
+  pub run-cut : (p i n : ℕ) → i < n → SoFar t b F N a o p i
       → ((m : Marking) → fieldsRead t (F i) m (drop p b) ≡ none) → fieldsRead t (gather F (below n)) a (drop o b) ≡ none
-  run-cut places p i n l s h =
+  run-cut p i n l s h =
       rw (below-split i n l, gather-append F (below i) (i ∷ from (suc i) (n - suc i)), fields-append, s .read, fields-append, h (s .m))
 
+-- ---- the bytes of one field, from place p to place q
+module _ (b : List ℕ) (p q : ℕ) where
+  pub field-length : (w : List ℕ) → drop p b ≡ w ++ drop q b → p ≤ length b → q ≤ length b → q ≡ p + length w
+  field-length w h lp lq = omega (arith, length-drop p b, length-drop q b, ap length h, length-append w (drop q b))
+
+  -- a stock has its values behind the count
+  pub stock-noted : (vs : List ℕ) → drop p b ≡ listed vs ++ drop q b → ValuesNoted b vs (p + 1) (length vs)
+  stock-noted vs h =
+      let rest = gather four vs ++ drop q b in
+      let d = drop-head b rest p (length vs) h in
+      let e : drop (p + 1) b ≡ rest =
+      let z : at b p ∷ drop (suc p) b ≡ length vs ∷ rest = sym (drop-cons b p 0 (d .0)) ∙ h in
+      let n : p + 1 ≡ suc p = omega arith in
+      rw n (cc) in
+      record {
+        many = refl;
+        stand = rw e (sym (take-at (gather four vs) (drop q b) (4 * length vs) (omega (arith, length-listed vs))));
+        inside = omega (arith, length-listed vs, length-drop p b, ap length h, length-append (listed vs) (drop q b));
+      }
+
+-- what `first_of` says of that field
+abbrev pub First : List ℕ → ℕ → ℕ → ℕ → Type 0
+First b p q x = (p < q → x ≡ at b p) × (q ≤ p → x ≡ 0)
+
 -- ---- the nodes' fields
-module _ (t b : List ℕ) where
-  node-here : (i p q : ℕ) (a m : Marking) → Taken t (nodeFields t i) a (drop p b) m (drop q b) → NodeNoted t m b i p
-  unfolding written
-  node-here i p q a m k = record {
-    stock = λ o. (drop q b, rw o at (k .stand .parts) ∙ ap (λ (l : List ℕ). l ++ drop q b) (append-nil (listed (m .stock i))));
-    room = λ o. k .fit (stockOf i) (rw o (in-front refl)) .0;
-    runs = λ r. drop-head b (drop q b) p (oneIf (m .runs i)) (rw (not-both (kind t i) r, r) at (k .stand .parts));
-  }
+module _ (t b : List ℕ) (p q i : ℕ) (lp : p ≤ length b) (lq : q ≤ length b) where
+  module _ (a m : Marking) (w : Taken t (nodeFields t i) a (drop p b) m (drop q b)) where
+    stock-bytes : isObjectNode (kind t i) ≡ true → drop p b ≡ listed (m .stock i) ++ drop q b
+    unfolding written
+    stock-bytes o = rw o at (w .stand .parts) ∙ ap (λ (l : List ℕ). l ++ drop q b) (append-nil (listed (m .stock i)))
 
-  node-still : (i k p : ℕ) (a m : Marking) (c d : List ℕ) → eqb k i ≡ false → Taken t (nodeFields t i) a c m d → NodeNoted t a b k p → NodeNoted t m b k p
-  node-still i k p a m c d n w h =
-      let s : a .stock k ≡ m .stock k = w .kept (stockOf k) (node-only t i (stockOf k) n) in
-      let r : a .runs k ≡ m .runs k = w .kept (runsOf k) (node-only t i (runsOf k) n) in
-      record { stock = λ o. rw s at (h .stock o); room = λ o. rw s at (h .room o); runs = λ o. rw r at (h .runs o) }
+    runs-byte : isAction (kind t i) ≡ true → drop p b ≡ oneIf (m .runs i) ∷ drop q b
+    unfolding written
+    runs-byte r = rw (not-both (kind t i) r, r) at (w .stand .parts)
 
-  pub node-run : Run t b (nodeFields t) (λ m k p. NodeNoted t m b k p)
-  node-run = record { once = node-once t; here = node-here; still = node-still }
+    no-bytes : isObjectNode (kind t i) ≡ false → isAction (kind t i) ≡ false → drop p b ≡ drop q b
+    no-bytes o r = rw (o, r) at (w .stand .parts)
+
+    stock-room : isObjectNode (kind t i) ≡ true → length (m .stock i) ≤ upper t i
+    stock-room o = w .fit (stockOf i) (rw o (in-front refl)) .0
+
+    node-here : (x : ℕ) → First b p q x → NodeRead t m b i (p + 1) x
+    node-here x f = record {
+      stock = λ o.
+          let h = stock-bytes o in
+          let n = field-length b p q (listed (m .stock i)) h lp lq in
+          rw (f .0 (omega arith) ∙ drop-head b (gather four (m .stock i) ++ drop q b) p (length (m .stock i)) h .1) (stock-noted b p q (m .stock i) h);
+      room = stock-room;
+      runs = λ r.
+          let h = runs-byte r in
+          let n = field-length b p q (oneIf (m .runs i) ∷ []) h lp lq in
+          f .0 (omega arith) ∙ drop-head b (drop q b) p (oneIf (m .runs i)) h .1;
+      bare = λ o r. f .1 (omega (arith, field-length b p q [] (no-bytes o r) lp lq));
+    }
+
+    -- a stock is the longest
+    field-short : upper t i ≤ limits .mostUpper → q ≤ p + 65
+    field-short u = by (isObjectNode (kind t i)) refl (isAction (kind t i)) refl
+      where
+        by : (o : Bool) → isObjectNode (kind t i) ≡ o → (r : Bool) → isAction (kind t i) ≡ r → q ≤ p + 65
+        by true o r e = omega (arith, field-length b p q (listed (m .stock i)) (stock-bytes o) lp lq, length-listed (m .stock i), stock-room o)
+        by false o true r = omega (arith, field-length b p q (oneIf (m .runs i) ∷ []) (runs-byte r) lp lq)
+        by false o false r = omega (arith, field-length b p q [] (no-bytes o r) lp lq)
+
+  pub node-short : NodeFields t limits i → Bytes b → ((m : Marking) → Reads (At q) (fieldsRead t (nodeFields t i) m (drop p b)) b) → q ≤ p + 65
+  node-short f u h =
+      let x = h (blank false) in
+      field-short (blank false) (x .0)
+      (fields-are t (nodeFields t i) (blank false) (drop p b) (x .0) (drop q b) (node-once t i) (λ k. rw (getD-drop p b k 0) (u (p + k))) (x .1))
+      (upper-fits f)
+
+node-still : (t b : List ℕ) (i k f v : ℕ) (a m : Marking) (c d : List ℕ) → eqb k i ≡ false → Taken t (nodeFields t i) a c m d → NodeRead t a b k f v → NodeRead t m b k f v
+node-still t b i k f v a m c d n w h =
+    let s : a .stock k ≡ m .stock k = w .kept (stockOf k) (node-only t i (stockOf k) n) in
+    let r : a .runs k ≡ m .runs k = w .kept (runsOf k) (node-only t i (runsOf k) n) in
+    record { stock = λ o. rw s at (h .stock o); room = λ o. rw s at (h .room o); runs = λ o. rw r at (h .runs o); bare = h .bare }
+
+-- the first i nodes are read, and taken up
+abbrev pub NodesSoFar : List ℕ → List ℕ → Bool → List ℕ → List ℕ → ℕ → ℕ → Type 0
+NodesSoFar t b e from kept p i = SoFar t b (nodeFields t) (λ m k. NodeRead t m b k (at from k) (at kept k)) (blank e) 4 p i
+
+pub node-step : (t b from kept : List ℕ) (p q i x : ℕ) → Bytes b → i < length from → i < length kept → p ≤ length b → q ≤ length b → First b p q x
+    → (e : Bool) → NodesSoFar t b e from kept p i → ((m : Marking) → Reads (At q) (fieldsRead t (nodeFields t i) m (drop p b)) b)
+    → NodesSoFar t b e (set from i (p + 1)) (set kept i x) q (i + 1)
+node-step t b from kept p q i x u lf lk lp lq f e =
+    run-step (blank e) 4 (node-once t i) u
+    (λ a m w. rw (getD-set-same from i (p + 1) 0 lf, getD-set-same kept i x 0 lk) (node-here t b p q i lp lq a m w x f))
+    (λ k a m n w h.
+    let d : k ≡ i → ⊥ = eqb-false k i n in
+    rw (getD-set-other from i k (p + 1) 0 d, getD-set-other kept i k x 0 d) (node-still t b i k (at from k) (at kept k) a m (drop p b) (drop q b) n w h))
 
 -- ---- the edges' counts
 pub object-uncounted : (t : List ℕ) (j : ℕ) → edgeKind t j ≡ 1 → counted t j ≡ false
@@ -149,39 +218,35 @@ edge-only t j g n = by (counted t j)
     by true m = other-field j g (tokensOf j) n (eq-eqb j j refl) (in-one m)
     by false m = in-none m
 
-module _ (t b : List ℕ) where
-  edge-here : (j p q : ℕ) (a m : Marking) → Taken t (edgeFields t j) a (drop p b) m (drop q b) → EdgeNoted t m b j p
+module _ (t b : List ℕ) (p q j : ℕ) (lp : p ≤ length b) (lq : q ≤ length b) where
+  edge-here : (a m : Marking) → Taken t (edgeFields t j) a (drop p b) m (drop q b) → (x : ℕ) → First b p q x → EdgeRead t m j x
   unfolding written
-  edge-here j p q a m k = record { count = λ c. drop-head b (drop q b) p (m .tokens j) (rw c at (k .stand .parts)) }
+  edge-here a m w x f = record {
+    count = λ c.
+        let h : drop p b ≡ m .tokens j ∷ drop q b = rw c at (w .stand .parts) in
+        let n = field-length b p q (m .tokens j ∷ []) h lp lq in
+        f .0 (omega arith) ∙ drop-head b (drop q b) p (m .tokens j) h .1;
+    bare = λ c. let h : drop p b ≡ drop q b = rw c at (w .stand .parts) in f .1 (omega (arith, field-length b p q [] h lp lq));
+  }
 
-  edge-still : (j k p : ℕ) (a m : Marking) (c d : List ℕ) → eqb k j ≡ false → Taken t (edgeFields t j) a c m d → EdgeNoted t a b k p → EdgeNoted t m b k p
-  edge-still j k p a m c d n w h =
-      let s : a .tokens k ≡ m .tokens k = w .kept (tokensOf k) (edge-only t j (tokensOf k) n) in
-      record { count = λ o. rw s at (h .count o) }
+edge-still : (t : List ℕ) (j k v : ℕ) (a m : Marking) (c d : List ℕ) → eqb k j ≡ false → Taken t (edgeFields t j) a c m d → EdgeRead t a k v → EdgeRead t m k v
+edge-still t j k v a m c d n w h =
+    let s : a .tokens k ≡ m .tokens k = w .kept (tokensOf k) (edge-only t j (tokensOf k) n) in
+    record { count = λ o. rw s at (h .count o); bare = h .bare }
 
-  pub edge-run : Run t b (edgeFields t) (λ m k p. EdgeNoted t m b k p)
-  edge-run = record { once = edge-once t; here = edge-here; still = edge-still }
+-- the first j edges are read, and taken up
+abbrev pub EdgesSoFar : List ℕ → List ℕ → Marking → ℕ → List ℕ → ℕ → ℕ → Type 0
+EdgesSoFar t b a o tokens p j = SoFar t b (edgeFields t) (λ m k. EdgeRead t m k (at tokens k)) a o p j
 
--- ---- what stands at a place
-module _ {t b places : List ℕ} where
-  -- the count of a stock, and the running byte
-  pub held-at : {m : Marking} {n : ℕ} → NodesNoted t m b places n → (i : ℕ) → i < n → isObjectNode (kind t i) ≡ true → (at places i < length b) × (at b (at places i) ≡ length (m .stock i))
-  held-at {m} h i l o = let s = h .node i l .stock o in drop-head b (gather four (m .stock i) ++ s .0) (at places i) (length (m .stock i)) (s .1)
-
-  pub runs-at : {m : Marking} {n : ℕ} → NodesNoted t m b places n → (i : ℕ) → i < n → isAction (kind t i) ≡ true → (at places i < length b) × (at b (at places i) ≡ oneIf (m .runs i))
-  runs-at h i l a = h .node i l .runs a
-
-  pub tokens-at : {m : Marking} {n : ℕ} → EdgesNoted t m b places n → (j : ℕ) → j < n → counted t j ≡ true → (at places j < length b) × (at b (at places j) ≡ m .tokens j)
-  tokens-at h j l c = h .edge j l .count c
-
-  pub stock-place : NodesPlaced t b places → (i : ℕ) → i < nodes t → isObjectNode (kind t i) ≡ true → (i < length places) × (at places i < length b)
-  stock-place p i l o = (omega (arith, p .enough), let s = p .noted .node i l .stock o in drop-head b _ (at places i) _ (s .1) .0)
-
-  pub runs-place : NodesPlaced t b places → (i : ℕ) → i < nodes t → isAction (kind t i) ≡ true → (i < length places) × (at places i < length b)
-  runs-place p i l a = (omega (arith, p .enough), p .noted .node i l .runs a .0)
-
-  pub count-place : EdgesPlaced t b places → (j : ℕ) → j < edges t → counted t j ≡ true → (j < length places) × (at places j < length b)
-  count-place p j l c = (omega (arith, p .enough), p .noted .edge j l .count c .0)
+pub edge-step : (t b tokens : List ℕ) (p q j x : ℕ) → Bytes b → j < length tokens → p ≤ length b → q ≤ length b → First b p q x
+    → (a : Marking) (o : ℕ) → EdgesSoFar t b a o tokens p j → ((m : Marking) → Reads (At q) (fieldsRead t (edgeFields t j) m (drop p b)) b)
+    → EdgesSoFar t b a o (set tokens j x) q (j + 1)
+edge-step t b tokens p q j x u l lp lq f a o =
+    run-step a o (edge-once t j) u
+    (λ a m w. rw (getD-set-same tokens j x 0 l) (edge-here t b p q j lp lq a m w x f))
+    (λ k a m n w h.
+    let d : k ≡ j → ⊥ = eqb-false k j n in
+    rw (getD-set-other tokens j k x 0 d) (edge-still t j k (at tokens k) a m (drop p b) (drop q b) n w h))
 
 and-true-right : (b : Bool) → b && true ≡ b
 and-true-right true = refl
@@ -195,7 +260,6 @@ zero-of : (r : Bool) (x : ℕ) → x ≡ oneIf r → (x ≡ 1 → ⊥) → r ≡
 zero-of true x e h = absurd (h e)
 zero-of false x e h = refl
 
--- ---- a test of every number below n
 -- ---- pins, and an ended marking
 module _ (t : List ℕ) (m : Marking) where
   pub no-pin : (p : ℕ) → isInput (kind t p) ≡ false → pinFine t m p ≡ true
@@ -222,11 +286,7 @@ module _ (t : List ℕ) (m : Marking) where
         pins : isInput (kind t p) ≡ true → isPin (kind t p) ≡ true
         pins h = rw h
 
-  -- a node that holds a stock, an action, any other
-  pub stock-clear : (i : ℕ) → isObjectNode (kind t i) ≡ true → isOutgoing (kind t i) ≡ false → nodeClear t m i ≡ eqb (length (m .stock i)) 0
-  unfolding cleared
-  stock-clear i o n = rw (o, n) (and-true-right _)
-
+  -- a node with a field is clear where its byte is 0, unless it is an outgoing parameter
   pub outgoing-clear : (i : ℕ) → kind t i ≡ 7 → nodeClear t m i ≡ true
   unfolding cleared
   outgoing-clear i e =
@@ -234,23 +294,26 @@ module _ (t : List ℕ) (m : Marking) where
       let g : isOutgoing (kind t i) ≡ true = ap isOutgoing e in
       rw (o, g)
 
-  pub action-clear : (i : ℕ) → kind t i ≡ 2 → (x : ℕ) → x ≡ oneIf (m .runs i) → nodeClear t m i ≡ eqb x 0
+  not-running : (r : Bool) → not r && true ≡ eqb (oneIf r) 0
+  not-running true = refl
+  not-running false = refl
+
+  pub node-clear-is : (b : List ℕ) (i f v : ℕ) → (kind t i ≡ 7 → ⊥) → NodeRead t m b i f v → nodeClear t m i ≡ eqb v 0
   unfolding cleared
-  action-clear i e x h = rw (e, h) (by (m .runs i))
+  node-clear-is b i f v n h = by (isObjectNode (kind t i)) refl (isAction (kind t i)) refl
     where
-      by : (r : Bool) → not r && true ≡ eqb (oneIf r) 0
-      by true = refl
-      by false = refl
+      by : (o : Bool) → isObjectNode (kind t i) ≡ o → (r : Bool) → isAction (kind t i) ≡ r → nodeClear t m i ≡ eqb v 0
+      by true o r e = rw (o, ne-eqb (kind t i) 7 n, h .stock o .many) (and-true-right _)
+      by false o true r = rw (o, r, h .runs r) (not-running (m .runs i))
+      by false o false r = rw (o, r, h .bare o r)
 
-  pub other-clear : (i : ℕ) → isObjectNode (kind t i) ≡ false → isAction (kind t i) ≡ false → nodeClear t m i ≡ true
-  other-clear i o a = rw (o, a)
-
-  pub counted-clear : (j : ℕ) → counted t j ≡ true → edgeClear t m j ≡ eqb (m .tokens j) 0
+  pub edge-clear-is : (j v : ℕ) → EdgeRead t m j v → edgeClear t m j ≡ eqb v 0
   unfolding cleared
-  counted-clear j c = rw c (and-true-right _)
-
-  pub uncounted-clear : (j : ℕ) → counted t j ≡ false → edgeClear t m j ≡ true
-  uncounted-clear j c = rw c
+  edge-clear-is j v h = by (counted t j) refl
+    where
+      by : (c : Bool) → counted t j ≡ c → edgeClear t m j ≡ eqb v 0
+      by true c = rw (c, h .count c) (and-true-right _)
+      by false c = rw (c, h .bare c)
 
 -- ---- the head
 cond-none : {A : Type 0} (c : Bool) → _≡_ {A = Option A} (cond c none none) none
@@ -370,16 +433,19 @@ module _ (t : List ℕ) where
       by true (x ∷ b) h k = k (record { ended = a .ended; stock = a .stock; runs = a .runs; tokens = λ e. cond (eqb e j) x (a .tokens e) }) b m rest h
       by false b h k = k a b m rest h
 
-  pub nodes-still : {b places : List ℕ} {n : ℕ} (js : List ℕ) (a : Marking) (c : List ℕ) (m : Marking) (rest : List ℕ)
-      → fieldsRead t (gather (edgeFields t) js) a c ≡ some (m, rest) → NodesNoted t a b places n → NodesNoted t m b places n
+  pub nodes-still : {b from kept : List ℕ} {n : ℕ} (js : List ℕ) (a : Marking) (c : List ℕ) (m : Marking) (rest : List ℕ)
+      → fieldsRead t (gather (edgeFields t) js) a c ≡ some (m, rest) → NodesRead t a b from kept n → NodesRead t m b from kept n
   nodes-still js a c m rest h k =
       let e = edges-keep js a c m rest h in
       record {
-        node = λ i l. let z = k .node i l in record {
-          stock = λ o. rw (ap (λ (f : ℕ → List ℕ). f i) (e .0)) at (z .stock o);
-          room = λ o. rw (ap (λ (f : ℕ → List ℕ). f i) (e .0)) at (z .room o);
-          runs = λ o. rw (ap (λ (f : ℕ → Bool). f i) (e .1)) at (z .runs o);
-        };
+        node = λ i l. let z = k .node i l in
+            let s : a .stock i ≡ m .stock i = ap (λ (f : ℕ → List ℕ). f i) (e .0) in
+            record {
+              stock = λ o. rw s at (z .stock o);
+              room = λ o. rw s at (z .room o);
+              runs = λ o. rw (ap (λ (f : ℕ → Bool). f i) (e .1)) at (z .runs o);
+              bare = z .bare;
+            };
       }
 
   -- and no field changes the state
@@ -420,38 +486,41 @@ module _ (t : List ℕ) where
             by true = rw (ne-eqb (length (drop q b)) 0 (λ e. n (omega (arith, length-drop q b))))
             by false = refl
 
-        pub walked : {nodesAt edgesAt : List ℕ} → q ≡ length b → NodesNoted t a b nodesAt (nodes t) → EdgesNoted t m b edgesAt (edges t) → Walked t b nodesAt edgesAt
+        pub walked : {from kept tokens : List ℕ} → q ≡ length b → NodesRead t a b from kept (nodes t) → EdgesRead t m tokens (edges t) → Walked t b from kept tokens
         walked e n k = record {
           m = m;
           read = judged-is ∙ by (markingFine t m);
           state = sym (fields-state nodePart (blank state) (drop 4 b) a (drop p b) r ∙ fields-state edgePart a (drop p b) m (drop q b) s);
-          nodes-noted = nodes-still (below (edges t)) a (drop p b) m (drop q b) s n;
-          edges-noted = k;
+          nodes-read = nodes-still (below (edges t)) a (drop p b) m (drop q b) s n;
+          edges-read = k;
         }
           where
             by : (c : Bool) → whole (cond c (done m) fail (drop q b)) ≡ cond c (some m) none
             by true = rw (eq-eqb (length (drop q b)) 0 (omega (arith, length-drop q b)))
             by false = refl
 
-pub walk-by : {t b nodesAt edgesAt : List ℕ} (c : Bool) → (c ≡ true → Walked t b nodesAt edgesAt) → (c ≡ false → marking t b ≡ none) → Walk t b nodesAt edgesAt c
-walk-by true f g = f refl
-walk-by false f g = g refl
+module _ {t b from kept tokens : List ℕ} where
+  pub walk-by : (c : Bool) → (c ≡ true → Walked t b from kept tokens) → (c ≡ false → marking t b ≡ none) → Walk t b from kept tokens c
+  walk-by true f g = f refl
+  walk-by false f g = g refl
 
 -- a walk that says true or false
-pub walk-true : {t b nodesAt edgesAt : List ℕ} (c : Bool) → c ≡ true → Walk t b nodesAt edgesAt c → Walked t b nodesAt edgesAt
-walk-true true e w = w
-walk-true false e w = never false e refl
+module _ (t b from kept tokens : List ℕ) where
+  pub walk-true : (c : Bool) → c ≡ true → Walk t b from kept tokens c → Walked t b from kept tokens
+  walk-true true e w = w
+  walk-true false e w = never false e refl
 
-pub walk-false : (t b nodesAt edgesAt : List ℕ) (c : Bool) → c ≡ false → Walk t b nodesAt edgesAt c → marking t b ≡ none
-walk-false t b nodesAt edgesAt true e w = never true refl e
-walk-false t b nodesAt edgesAt false e w = w
+  pub walk-false : (c : Bool) → c ≡ false → Walk t b from kept tokens c → marking t b ≡ none
+  walk-false true e w = never true refl e
+  walk-false false e w = w
 
-module _ (t b nodesAt edgesAt : List ℕ) (r : MarkingAnswer) where
-  pub read-none : said r ≡ refused 5 0 → marking t b ≡ none → MarkingRead t b nodesAt edgesAt (marking t b) r
-  read-none e n = rw n e
+  module _ (r : MarkingAnswer) where
+    pub read-none : said r ≡ refused 5 0 → marking t b ≡ none → MarkingRead t b from kept tokens (marking t b) r
+    read-none e n = rw n e
 
-  pub read-bad : said r ≡ refused 5 0 → (w : Walked t b nodesAt edgesAt) → markingFine t (w .m) ≡ false → MarkingRead t b nodesAt edgesAt (marking t b) r
-  read-bad e w f = rw (w .read, f) e
+    module _ (w : Walked t b from kept tokens) where
+      pub read-bad : said r ≡ refused 5 0 → markingFine t (w .m) ≡ false → MarkingRead t b from kept tokens (marking t b) r
+      read-bad e f = rw (w .read, f) e
 
-  pub read-good : (w : Walked t b nodesAt edgesAt) → markingFine t (w .m) ≡ true → said r ≡ good (eqb (at b 3) 1) → MarkingRead t b nodesAt edgesAt (marking t b) r
-  read-good w f e = rw (w .read, f) (e ∙ ap good (sym (w .state)), w .nodes-noted, w .edges-noted)
+      pub read-good : markingFine t (w .m) ≡ true → said r ≡ good (eqb (at b 3) 1) → MarkingRead t b from kept tokens (marking t b) r
+      read-good f e = rw (w .read, f) (e ∙ ap good (sym (w .state)), w .nodes-read, w .edges-read)

@@ -1,17 +1,17 @@
 -- Laws of reading value lists at a place. Assumes nothing.
-use mathlib.Core.Path.{_≡_, refl, sym, ap, ap₂, _∙_}
+use mathlib.Core.Path.{_≡_, refl, sym, ap, _∙_}
 use Prim.Native.Nat.{ℕ, suc, _+_, _-_, _*_, _/_, _%_, _≤_, _<_}
 use native.Mathlib.Omega.{arith}
 use mathlib.Core.Bool.{Bool, true, false, cond}
 use mathlib.Core.List.{List, [], _∷_, _++_, append-nil}
 use mathlib.Core.Option.{Option, none, some}
 use lib.Dec.{eqb}
-use lib.ListN.{length, take, drop, set, length-drop, length-append}
-use lib.Seq.{getD-set-same, getD-set-other, getD-drop, take-at, drop-cons}
+use lib.ListN.{length, drop, set, length-drop}
+use lib.Seq.{getD-set-same, getD-set-other, getD-drop}
 use borrow.Author.Tests.{eq-eqb, ne-eqb, eqb-true, eqb-false}
-use Rattle.paper.specs.Lists.{at, from, below, keep, gather}
+use Rattle.paper.specs.Lists.{at, from, below, keep}
 use Rattle.paper.specs.Limits.{limits}
-use Rattle.paper.specs.Bytes.{Reader, goOn, _>>=_, done, four, listed, valuesRead, eachRead}
+use Rattle.paper.specs.Bytes.{Reader, goOn, _>>=_, done, listed, valuesRead, eachRead}
 use Rattle.paper.specs.Table.{nodes}
 use Rattle.paper.specs.Answers.{refused, good}
 use Rattle.paper.specs.Operations.{valueLists, listFor}
@@ -19,7 +19,7 @@ use Rattle.paper.proofs.Members.{In, here, later, in-keep-below}
 use Rattle.paper.proofs.Lists.{below-more, below-split, keep-append}
 use Rattle.paper.proofs.Given.{not-listed}
 use Rattle.paper.proofs.Bytes.{Bytes, same-read, went-on, values-are, length-listed}
-use Rattle.marking.proofs.Laws.{reads-as}
+use Rattle.marking.proofs.Laws.{reads-as, field-length, stock-noted}
 use Rattle.marking.specs.Reading.{Reads}
 use Rattle.marking.specs.Values.{isListed, listedAt, listedNodes, ValuesNoted, ValuesRead, saidOf}
 use Rattle.marking.specs.declared.reading.Next.{Next}
@@ -70,24 +70,14 @@ list-new i (p ∷ ps) [] vs l e = absurd (omega arith)
 list-new i (p ∷ ps) (x ∷ vss) vs l e = rw (ne-eqb i p (λ q. e (here q))) (list-new i ps vss vs (omega arith) (λ m. e (later m)))
 
 -- where values that were read stand
-four-length : (vs : List ℕ) → length (gather four vs) ≡ 4 * length vs
-four-length vs = omega (arith, length-listed vs)
-
 noted-values : (b vs : List ℕ) (p q : ℕ) → p ≤ length b → q ≤ length b → length vs ≤ limits .mostUpper → drop p b ≡ listed vs ++ drop q b →
     ValuesNoted b vs (q - 4 * ((q - p) / 4)) ((q - p) / 4 % 256)
 noted-values b vs p q lp lq few h =
-    let e : length b - p ≡ suc (4 * length vs) + (length b - q) =
-    sym (length-drop p b) ∙ ap length h ∙ length-append (listed vs) (drop q b) ∙ ap₂ _+_ (ap suc (four-length vs)) (length-drop q b) in
-    let l : p < length b = omega arith in
+    let e = field-length b p q (listed vs) h lp lq in
+    let l = length-listed vs in
     let n : (q - p) / 4 % 256 ≡ length vs = omega arith in
-    let w : q - 4 * ((q - p) / 4) ≡ suc p = omega arith in
-    let t : drop (suc p) b ≡ gather four vs ++ drop q b = let z : at b p ∷ drop (suc p) b ≡ length vs ∷ (gather four vs ++ drop q b) = sym (drop-cons b p 0 l) ∙ h in cc in
-    let front : take (4 * length vs) (gather four vs ++ drop q b) ≡ gather four vs = take-at (gather four vs) (drop q b) (4 * length vs) (four-length vs) in
-    record {
-      many = n;
-      stand = rw (n, w, t) (sym front);
-      inside = omega arith;
-    }
+    let w : q - 4 * ((q - p) / 4) ≡ p + 1 = omega arith in
+    rw (n, w) (stock-noted b p q vs h)
 
 -- the list of one node
 module _ (t : List ℕ) (k o i : ℕ) (b rest : List ℕ) where
@@ -146,16 +136,20 @@ module _ (t : List ℕ) (k o : ℕ) (b : List ℕ) where
           let w : q - 4 * ((q - p) / 4) ≡ q = omega arith in
           rw (← s .0, append-nil, append-nil, not-listed i (soFar i) vss (not-yet i), n, w) (record { many = refl; stand = refl; inside = omega arith })
 
-  -- a list is not read backwards
-  pub lists-forth : (i p q : ℕ) → p ≤ length b → Reads (At q) (eachRead (λ n. valuesRead (limits .mostUpper)) (listedAt t k o i) (drop p b)) b → Bytes b → p ≤ q
-  lists-forth i p q l h u = by (isListed t k o i) (h .1)
+  -- a list takes a byte and at most 16 values
+  pub list-spans : (i p q : ℕ) → p ≤ length b → Reads (At q) (eachRead (λ n. valuesRead (limits .mostUpper)) (listedAt t k o i) (drop p b)) b → Bytes b
+      → (p ≤ q) × (q ≤ p + 65)
+  list-spans i p q l h u = by (isListed t k o i) (h .1)
     where
-      by : (x : Bool) → eachRead (λ n. valuesRead (limits .mostUpper)) (cond x (i ∷ []) []) (drop p b) ≡ some (h .0, drop q b) → p ≤ q
+      by : (x : Bool) → eachRead (λ n. valuesRead (limits .mostUpper)) (cond x (i ∷ []) []) (drop p b) ≡ some (h .0, drop q b) → (p ≤ q) × (q ≤ p + 65)
       by true r =
           let f = went-on (valuesRead (limits .mostUpper) (drop p b)) (λ v. done (v ∷ [])) (h .0, drop q b) r in
           let v = values-are (limits .mostUpper) (drop p b) (f .0 .0) (f .0 .1) (λ n. rw (getD-drop p b n 0) (u (p + n))) (f .1) in
-          omega (arith, h .2, length-drop p b, length-drop q b, ap length (same-read (f .2) .1), ap length (v .stand .parts), length-append (listed (f .0 .0)) (f .0 .1))
-      by false r = omega (arith, h .2, length-drop p b, length-drop q b, ap length (same-read r .1))
+          let e = field-length b p q (listed (f .0 .0)) (v .stand .parts ∙ ap (λ (r : List ℕ). listed (f .0 .0) ++ r) (same-read (f .2) .1)) l (h .2) in
+          let n = length-listed (f .0 .0) in
+          let m = v .many in
+          (omega arith, omega arith)
+      by false r = let e = field-length b p q [] (same-read r .1) l (h .2) in (omega arith, omega arith)
 
   pub lists-step : (place more : List ℕ) (p q i : ℕ) → Bytes b → p ≤ length b → i < length place → i < length more → ListsRead place more p i
       → Reads (At q) (eachRead (λ n. valuesRead (limits .mostUpper)) (listedAt t k o i) (drop p b)) b

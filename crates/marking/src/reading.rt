@@ -1,5 +1,7 @@
-// Row 5: reading a marking. One walk, front to back, notes where each node's field and each counted edge's byte stands.
+// Row 5: reading a marking. One walk, front to back, takes up of each node's field the place behind its first byte and that byte, which is a stock's
+// count or a running byte, and of each counted edge its count.
 use table::Table;
+use wire::wide;
 ghost use mathlib.Core.Path.{_≡_};
 ghost use mathlib.Core.Bool.{Bool, true, false};
 ghost use mathlib.Core.List.{List};
@@ -11,9 +13,8 @@ ghost use Rattle.paper.specs.Table.{nodes, edges};
 ghost use Rattle.paper.specs.Marking.{Marking, blank, counted, nodeFields, fieldsRead, marking, markingFine, pinFine};
 ghost use Rattle.paper.specs.Answers.{good};
 ghost use Rattle.table.specs.Reading.{Spans, tableRead};
-ghost use Rattle.marking.specs.Reading.{Reads, edgeFields, NodesNoted, EdgesNoted, ReadsNoted, NodesPlaced, EdgesPlaced, nodeClear, edgeClear, Head, Walk, MarkingRead};
+ghost use Rattle.marking.specs.Reading.{Reads, edgeFields, NodesRead, EdgesRead, ReadsInto, nodeClear, edgeClear, Head, Walk, MarkingRead};
 ghost use mathlib.Core.Option.{none};
-ghost use lib.Dec.{eqb};
 
 // The state of a good marking, or the refusal's number and its place.
 pub enum MarkingAnswer {
@@ -36,7 +37,7 @@ pub fn stock_end(b: &[u8], from: usize, most: usize) -> Next
     if b.len() <= from {
         return Next::Bad;
     }
-    let n = wire::wide(b[from]);
+    let n = wide(b[from]);
     if most < n {
         return Next::Bad;
     }
@@ -54,10 +55,21 @@ fn byte_end(b: &[u8], from: usize, most: usize) -> Next
     if b.len() <= from {
         return Next::Bad;
     }
-    if most < wire::wide(b[from]) {
+    if most < wide(b[from]) {
         return Next::Bad;
     }
     Next::At(from + 1)
+}
+
+// The first byte of a field that goes from a place to another, 0 if it has none.
+fn first_of(b: &[u8], place: usize, end: usize) -> u8
+    requires { ⌜ end ≤ length (now b) ⌝ }
+    ensures { λ r. ⌜ (place < end → r ≡ at (now (b .entry)) place) × (end ≤ place → r ≡ 0) ⌝ }
+{
+    if end <= place {
+        return 0;
+    }
+    b[place]
 }
 
 // The field of node i, if it has one.
@@ -75,25 +87,25 @@ fn node_end(t: &[u8], table: Table, b: &[u8], from: usize, i: usize) -> Next
     Next::At(from)
 }
 
-// Every node's field, noted where it stands.
-fn nodes_end(t: &[u8], table: Table, b: &[u8], places: &mut [usize]) -> Next
-    requires { ⌜ Spans (now t) table × (4 ≤ length (now b)) × (table .nodes ≤ length (now places)) ⌝ }
-    ensures { λ r. ⌜ ((e : Bool) → ReadsNoted (λ m. NodesNoted (now (t .entry)) m (now (b .entry)) (now (places .exit)) (nodes (now (t .entry)))) r (fieldsRead (now (t .entry)) (gather (nodeFields (now (t .entry))) (below (nodes (now (t .entry))))) (blank e) (drop 4 (now (b .entry)))) (now (b .entry))) ⌝ }
+// Every node's field. Each takes at most 65 bytes, so that two bytes say every place.
+fn nodes_end(t: &[u8], table: Table, b: &[u8], from: &mut [u16], kept: &mut [u8]) -> Next
+    requires { ⌜ (tableRead (now t) ≡ good table) × (4 ≤ length (now b)) × (table .nodes ≤ length (now from)) × (table .nodes ≤ length (now kept)) ⌝ }
+    ensures { λ r. ⌜ ((e : Bool) → ReadsInto (λ m. NodesRead (now (t .entry)) m (now (b .entry)) (now (from .exit)) (now (kept .exit)) (nodes (now (t .entry)))) r (fieldsRead (now (t .entry)) (gather (nodeFields (now (t .entry))) (below (nodes (now (t .entry))))) (blank e) (drop 4 (now (b .entry)))) (now (b .entry))) ⌝ }
 {
     let n = table.nodes;
-    let mut from: usize = 4;
+    let mut place: usize = 4;
     let mut i: usize = 0;
     while i < n {
-        places[i] = from;
-        match node_end(t, table, b, from, i) {
-            Next::At(q) => {
-                from = q;
-            }
+        let q = match node_end(t, table, b, place, i) {
+            Next::At(q) => q,
             Next::Bad => return Next::Bad,
-        }
+        };
+        from[i] = (place + 1) as u16;
+        kept[i] = first_of(b, place, q);
+        place = q;
         i += 1;
     }
-    Next::At(from)
+    Next::At(place)
 }
 
 // Whether edge j has a count: a control edge that leaves an initial node or an action.
@@ -122,89 +134,50 @@ fn edge_end(t: &[u8], table: Table, b: &[u8], from: usize, j: usize) -> Next
     Next::At(from + 1)
 }
 
-// Every edge's count, noted where it stands.
-fn edges_end(t: &[u8], table: Table, b: &[u8], start: usize, places: &mut [usize]) -> Next
-    requires { ⌜ (tableRead (now t) ≡ good table) × (start ≤ length (now b)) × (table .edges ≤ length (now places)) ⌝ }
-    ensures { λ r. ⌜ ((a : Marking) → ReadsNoted (λ m. EdgesNoted (now (t .entry)) m (now (b .entry)) (now (places .exit)) (edges (now (t .entry)))) r (fieldsRead (now (t .entry)) (gather (edgeFields (now (t .entry))) (below (edges (now (t .entry))))) a (drop start (now (b .entry)))) (now (b .entry))) ⌝ }
+// Every edge's count.
+fn edges_end(t: &[u8], table: Table, b: &[u8], start: usize, tokens: &mut [u8]) -> Next
+    requires { ⌜ (tableRead (now t) ≡ good table) × (start ≤ length (now b)) × (table .edges ≤ length (now tokens)) ⌝ }
+    ensures { λ r. ⌜ ((a : Marking) → ReadsInto (λ m. EdgesRead (now (t .entry)) m (now (tokens .exit)) (edges (now (t .entry)))) r (fieldsRead (now (t .entry)) (gather (edgeFields (now (t .entry))) (below (edges (now (t .entry))))) a (drop start (now (b .entry)))) (now (b .entry))) ⌝ }
 {
     let n = table.edges;
-    let mut from: usize = start;
+    let mut place: usize = start;
     let mut j: usize = 0;
     while j < n {
-        places[j] = from;
-        match edge_end(t, table, b, from, j) {
-            Next::At(q) => {
-                from = q;
-            }
+        let q = match edge_end(t, table, b, place, j) {
+            Next::At(q) => q,
             Next::Bad => return Next::Bad,
-        }
+        };
+        tokens[j] = first_of(b, place, q);
+        place = q;
         j += 1;
     }
-    Next::At(from)
-}
-
-// The byte at a place that was noted: a count of values, a running byte or an edge's count.
-pub fn noted(b: &[u8], places: &[usize], i: usize) -> usize
-    requires { ⌜ (i < length (now places)) × (at (now places) i < length (now b)) ⌝ }
-    ensures { λ r. ⌜ (r ≡ at (now (b .entry)) (at (now (places .entry)) i)) × (r < 256) ⌝ }
-{
-    let place = places[i];
-    wire::wide(b[place])
+    Next::At(place)
 }
 
 // Whether pin p holds what its action's running byte asks; any other node does.
-fn pin_fine(t: &[u8], table: Table, b: &[u8], places: &[usize], p: usize) -> bool
-    requires { ⌜ (tableRead (now t) ≡ good table) × (p < table .nodes) × NodesPlaced (now t) (now b) (now places) ⌝ }
-    ensures { λ r. ⌜ ((m : Marking) → NodesNoted (now (t .entry)) m (now (b .entry)) (now (places .entry)) (nodes (now (t .entry))) → r ≡ pinFine (now (t .entry)) m p) ⌝ }
+fn pin_fine(t: &[u8], table: Table, kept: &[u8], p: usize) -> bool
+    requires { ⌜ (tableRead (now t) ≡ good table) × (p < table .nodes) × (table .nodes ≤ length (now kept)) ⌝ }
+    ensures { λ r. ⌜ ((m : Marking) (b from : List ℕ) → NodesRead (now (t .entry)) m b from (now (kept .entry)) (nodes (now (t .entry))) → r ≡ pinFine (now (t .entry)) m p) ⌝ }
 {
     if table.kind(t, p) != Table::INPUT {
         return true;
     }
-    let held = noted(b, places, p);
-    if noted(b, places, table.owner(t, p)) == 1 {
-        return table.lower(t, p) <= held;
+    let a = table.owner(t, p);
+    if kept[a] == 1 {
+        return table.lower(t, p) <= wide(kept[p]);
     }
-    held == 0
-}
-
-// Whether node i is clear, as an ended marking wants it.
-fn node_clear(t: &[u8], table: Table, b: &[u8], places: &[usize], i: usize) -> bool
-    requires { ⌜ (tableRead (now t) ≡ good table) × (i < table .nodes) × NodesPlaced (now t) (now b) (now places) ⌝ }
-    ensures { λ r. ⌜ ((m : Marking) → NodesNoted (now (t .entry)) m (now (b .entry)) (now (places .entry)) (nodes (now (t .entry))) → r ≡ nodeClear (now (t .entry)) m i) ⌝ }
-{
-    let k = table.kind(t, i);
-    if k == Table::OUTGOING {
-        return true;
-    }
-    if table::is_object_node(k) {
-        return noted(b, places, i) == 0;
-    }
-    if k != 2 {
-        return true;
-    }
-    noted(b, places, i) == 0
-}
-
-// Whether edge j is clear, as an ended marking wants it.
-fn edge_clear(t: &[u8], table: Table, b: &[u8], places: &[usize], j: usize) -> bool
-    requires { ⌜ (tableRead (now t) ≡ good table) × (j < table .edges) × EdgesPlaced (now t) (now b) (now places) ⌝ }
-    ensures { λ r. ⌜ ((m : Marking) → EdgesNoted (now (t .entry)) m (now (b .entry)) (now (places .entry)) (edges (now (t .entry))) → r ≡ edgeClear (now (t .entry)) m j) ⌝ }
-{
-    if !has_count(t, table, j) {
-        return true;
-    }
-    noted(b, places, j) == 0
+    kept[p] == 0
 }
 
 // Whether every pin holds what it should.
-fn pins_fine(t: &[u8], table: Table, b: &[u8], places: &[usize]) -> bool
-    requires { ⌜ (tableRead (now t) ≡ good table) × NodesPlaced (now t) (now b) (now places) ⌝ }
-    ensures { λ r. ⌜ ((m : Marking) → NodesNoted (now (t .entry)) m (now (b .entry)) (now (places .entry)) (nodes (now (t .entry))) → r ≡ all (pinFine (now (t .entry)) m) (below (nodes (now (t .entry))))) ⌝ }
+fn pins_fine(t: &[u8], table: Table, kept: &[u8]) -> bool
+    requires { ⌜ (tableRead (now t) ≡ good table) × (table .nodes ≤ length (now kept)) ⌝ }
+    ensures { λ r. ⌜ ((m : Marking) (b from : List ℕ) → NodesRead (now (t .entry)) m b from (now (kept .entry)) (nodes (now (t .entry))) → r ≡ all (pinFine (now (t .entry)) m) (below (nodes (now (t .entry))))) ⌝ }
 {
     let n = table.nodes;
     let mut p: usize = 0;
     while p < n {
-        if !pin_fine(t, table, b, places, p) {
+        if !pin_fine(t, table, kept, p) {
             return false;
         }
         p += 1;
@@ -212,15 +185,26 @@ fn pins_fine(t: &[u8], table: Table, b: &[u8], places: &[usize]) -> bool
     true
 }
 
+// Whether node i is clear, as an ended marking wants it.
+fn node_clear(t: &[u8], table: Table, kept: &[u8], i: usize) -> bool
+    requires { ⌜ (tableRead (now t) ≡ good table) × (i < table .nodes) × (table .nodes ≤ length (now kept)) ⌝ }
+    ensures { λ r. ⌜ ((m : Marking) (b from : List ℕ) → NodesRead (now (t .entry)) m b from (now (kept .entry)) (nodes (now (t .entry))) → r ≡ nodeClear (now (t .entry)) m i) ⌝ }
+{
+    if table.kind(t, i) == Table::OUTGOING {
+        return true;
+    }
+    kept[i] == 0
+}
+
 // Whether every node is clear.
-fn nodes_clear(t: &[u8], table: Table, b: &[u8], places: &[usize]) -> bool
-    requires { ⌜ (tableRead (now t) ≡ good table) × NodesPlaced (now t) (now b) (now places) ⌝ }
-    ensures { λ r. ⌜ ((m : Marking) → NodesNoted (now (t .entry)) m (now (b .entry)) (now (places .entry)) (nodes (now (t .entry))) → r ≡ all (nodeClear (now (t .entry)) m) (below (nodes (now (t .entry))))) ⌝ }
+fn nodes_clear(t: &[u8], table: Table, kept: &[u8]) -> bool
+    requires { ⌜ (tableRead (now t) ≡ good table) × (table .nodes ≤ length (now kept)) ⌝ }
+    ensures { λ r. ⌜ ((m : Marking) (b from : List ℕ) → NodesRead (now (t .entry)) m b from (now (kept .entry)) (nodes (now (t .entry))) → r ≡ all (nodeClear (now (t .entry)) m) (below (nodes (now (t .entry))))) ⌝ }
 {
     let n = table.nodes;
     let mut i: usize = 0;
     while i < n {
-        if !node_clear(t, table, b, places, i) {
+        if !node_clear(t, table, kept, i) {
             return false;
         }
         i += 1;
@@ -228,15 +212,14 @@ fn nodes_clear(t: &[u8], table: Table, b: &[u8], places: &[usize]) -> bool
     true
 }
 
-// Whether every edge is clear.
-fn edges_clear(t: &[u8], table: Table, b: &[u8], places: &[usize]) -> bool
-    requires { ⌜ (tableRead (now t) ≡ good table) × EdgesPlaced (now t) (now b) (now places) ⌝ }
-    ensures { λ r. ⌜ ((m : Marking) → EdgesNoted (now (t .entry)) m (now (b .entry)) (now (places .entry)) (edges (now (t .entry))) → r ≡ all (edgeClear (now (t .entry)) m) (below (edges (now (t .entry))))) ⌝ }
+// Whether no edge has a token, as an ended marking wants it; n is the number of edges.
+fn edges_clear(tokens: &[u8], n: usize) -> bool
+    requires { ⌜ n ≤ length (now tokens) ⌝ }
+    ensures { λ r. ⌜ ((t : List ℕ) (m : Marking) → EdgesRead t m (now (tokens .entry)) n → r ≡ all (edgeClear t m) (below n)) ⌝ }
 {
-    let n = table.edges;
     let mut j: usize = 0;
     while j < n {
-        if !edge_clear(t, table, b, places, j) {
+        if tokens[j] != 0 {
             return false;
         }
         j += 1;
@@ -261,36 +244,68 @@ fn head_fine(b: &[u8]) -> bool
 }
 
 // Whether what takes the whole marking is fine: the pins, and an ended marking's being clear.
-fn settled(t: &[u8], table: Table, b: &[u8], fields: &[usize], counts: &[usize]) -> bool
-    requires { ⌜ (tableRead (now t) ≡ good table) × NodesPlaced (now t) (now b) (now fields) × EdgesPlaced (now t) (now b) (now counts) × (4 ≤ length (now b)) ⌝ }
-    ensures { λ r. ⌜ ((m : Marking) → NodesNoted (now (t .entry)) m (now (b .entry)) (now (fields .entry)) (nodes (now (t .entry))) → EdgesNoted (now (t .entry)) m (now (b .entry)) (now (counts .entry)) (edges (now (t .entry))) → m .ended ≡ eqb (at (now (b .entry)) 3) 1 → r ≡ markingFine (now (t .entry)) m) ⌝ }
+fn settled(t: &[u8], table: Table, ended: bool, kept: &[u8], tokens: &[u8]) -> bool
+    requires { ⌜ (tableRead (now t) ≡ good table) × (table .nodes ≤ length (now kept)) × (table .edges ≤ length (now tokens)) ⌝ }
+    ensures { λ r. ⌜ ((m : Marking) (b from : List ℕ) → NodesRead (now (t .entry)) m b from (now (kept .entry)) (nodes (now (t .entry))) → EdgesRead (now (t .entry)) m (now (tokens .entry)) (edges (now (t .entry))) → m .ended ≡ ended → r ≡ markingFine (now (t .entry)) m) ⌝ }
 {
-    if !pins_fine(t, table, b, fields) {
+    if !pins_fine(t, table, kept) {
         return false;
     }
-    if b[3] != 1 {
+    if !ended {
         return true;
     }
-    if !nodes_clear(t, table, b, fields) {
+    if !nodes_clear(t, table, kept) {
         return false;
     }
-    edges_clear(t, table, b, counts)
+    edges_clear(tokens, table.edges)
 }
 
 // All fields, to the last byte.
-fn walk(t: &[u8], table: Table, b: &[u8], fields: &mut [usize], counts: &mut [usize]) -> bool
-    requires { ⌜ (tableRead (now t) ≡ good table) × (4 ≤ length (now b)) × (table .nodes ≤ length (now fields)) × (table .edges ≤ length (now counts)) ⌝ }
-    ensures { λ r. ⌜ (Head (now (b .entry)) → Walk (now (t .entry)) (now (b .entry)) (now (fields .exit)) (now (counts .exit)) r) ⌝ }
+fn walk(
+    t: &[u8],
+    table: Table,
+    b: &[u8],
+    from: &mut [u16],
+    kept: &mut [u8],
+    tokens: &mut [u8],
+) -> bool
+    requires { ⌜ (tableRead (now t) ≡ good table) × (4 ≤ length (now b)) × (table .nodes ≤ length (now from)) × (table .nodes ≤ length (now kept)) × (table .edges ≤ length (now tokens)) ⌝ }
+    ensures { λ r. ⌜ (Head (now (b .entry)) → Walk (now (t .entry)) (now (b .entry)) (now (from .exit)) (now (kept .exit)) (now (tokens .exit)) r) ⌝ }
 {
-    let after = match nodes_end(t, table, b, fields) {
+    let after = match nodes_end(t, table, b, from, kept) {
         Next::At(q) => q,
         Next::Bad => return false,
     };
-    let end = match edges_end(t, table, b, after, counts) {
+    let end = match edges_end(t, table, b, after, tokens) {
         Next::At(q) => q,
         Next::Bad => return false,
     };
     end == b.len()
+}
+
+// What is said of a marking whose fields were walked through, or weren't all there.
+fn judged(
+    t: &[u8],
+    table: Table,
+    b: &[u8],
+    walked: bool,
+    kept: &[u8],
+    tokens: &[u8],
+) -> MarkingAnswer
+    requires { ⌜ (tableRead (now t) ≡ good table) × (4 ≤ length (now b)) × (table .nodes ≤ length (now kept)) × (table .edges ≤ length (now tokens)) ⌝ }
+    ensures { λ r. ⌜ ((from : List ℕ) → Walk (now (t .entry)) (now (b .entry)) from (now (kept .entry)) (now (tokens .entry)) walked → MarkingRead (now (t .entry)) (now (b .entry)) from (now (kept .entry)) (now (tokens .entry)) (marking (now (t .entry)) (now (b .entry))) r) ⌝ }
+{
+    if !walked {
+        return MarkingAnswer::Refused(5, 0);
+    }
+    let ended = b[3] == 1;
+    if !settled(t, table, ended, kept, tokens) {
+        return MarkingAnswer::Refused(5, 0);
+    }
+    if ended {
+        return MarkingAnswer::Ended;
+    }
+    MarkingAnswer::Live
 }
 
 // The whole marking.
@@ -298,23 +313,16 @@ pub fn read(
     t: &[u8],
     table: Table,
     b: &[u8],
-    fields: &mut [usize],
-    counts: &mut [usize],
+    from: &mut [u16],
+    kept: &mut [u8],
+    tokens: &mut [u8],
 ) -> MarkingAnswer
-    requires { ⌜ (tableRead (now t) ≡ good table) × (table .nodes ≤ length (now fields)) × (table .edges ≤ length (now counts)) ⌝ }
-    ensures { λ r. ⌜ MarkingRead (now (t .entry)) (now (b .entry)) (now (fields .exit)) (now (counts .exit)) (marking (now (t .entry)) (now (b .entry))) r ⌝ }
+    requires { ⌜ (tableRead (now t) ≡ good table) × (table .nodes ≤ length (now from)) × (table .nodes ≤ length (now kept)) × (table .edges ≤ length (now tokens)) ⌝ }
+    ensures { λ r. ⌜ MarkingRead (now (t .entry)) (now (b .entry)) (now (from .exit)) (now (kept .exit)) (now (tokens .exit)) (marking (now (t .entry)) (now (b .entry))) r ⌝ }
 {
     if !head_fine(b) {
         return MarkingAnswer::Refused(5, 0);
     }
-    if !walk(t, table, b, fields, counts) {
-        return MarkingAnswer::Refused(5, 0);
-    }
-    if !settled(t, table, b, fields, counts) {
-        return MarkingAnswer::Refused(5, 0);
-    }
-    if b[3] == 1 {
-        return MarkingAnswer::Ended;
-    }
-    MarkingAnswer::Live
+    let walked = walk(t, table, b, from, kept, tokens);
+    judged(t, table, b, walked, kept, tokens)
 }

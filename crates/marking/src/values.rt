@@ -48,14 +48,15 @@ fn list_end(
     Next::At(from)
 }
 
-// The lists of the nodes of one kind and owner, to the last byte: where each node's values start, and how many there are.
+// The lists of the nodes of one kind and owner, to the last byte: where each node's values start, and how many there are. Each list takes at most 65
+// bytes, so that two bytes say every place.
 pub fn read_values(
     t: &[u8],
     table: Table,
     kind: usize,
     owner: usize,
     b: &[u8],
-    place: &mut [usize],
+    place: &mut [u16],
     more: &mut [u8],
 ) -> ValuesAnswer
     requires { ⌜ Spans (now t) table × (table .nodes ≤ length (now place)) × (table .nodes ≤ length (now more)) ⌝ }
@@ -71,7 +72,7 @@ pub fn read_values(
         };
         // a list is a byte and four bytes a value; a node without one takes none
         let values = (q - from) / 4;
-        place[i] = q - 4 * values;
+        place[i] = (q - 4 * values) as u16;
         more[i] = (values % 256) as u8;
         from = q;
         i += 1;

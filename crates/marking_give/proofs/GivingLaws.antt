@@ -1,16 +1,16 @@
 -- Rows 15 and 16: what the three readings of a gift come to. Assumes nothing.
 use mathlib.Core.Path.{_≡_, refl, sym, ap, ap₂, _∙_}
-use Prim.Native.Nat.{ℕ, _+_, _*_, _≤_, _<_}
+use Prim.Native.Nat.{ℕ, _+_, _<_}
 use native.Mathlib.Omega.{arith}
 use mathlib.Core.Bool.{Bool, true, false, _&&_}
-use mathlib.Core.List.{List, [], _∷_, _++_}
+use mathlib.Core.List.{List, [], _++_}
 use mathlib.Core.Option.{Option, none, some}
 use lib.Dec.{leb}
 use lib.ListN.{length, length-append}
 use borrow.Author.Tests.{leb-true, lt-ltb}
-use Rattle.paper.specs.Lists.{at, all, below, keep}
+use Rattle.paper.specs.Lists.{at, all, below}
 use Rattle.paper.specs.Answers.{Answer, refused, good}
-use Rattle.paper.specs.Bytes.{four, listed, valuesRead, eachRead, _>>=_ as _then_, done}
+use Rattle.paper.specs.Bytes.{four}
 use Rattle.paper.specs.Limits.{limits}
 use Rattle.paper.specs.Table.{nodes, edges, kind, upper, source, isObjectNode}
 use Rattle.paper.specs.Marking.{Marking, hasTokens}
@@ -18,15 +18,14 @@ use Rattle.paper.specs.Operations.{valueLists, listFor, given, roomIn}
 use Rattle.paper.proofs.Bools.{never}
 use Rattle.paper.proofs.Lists.{all-below}
 use Rattle.paper.proofs.Ladders.{no-good, need-good, known-good, same-good}
-use Rattle.paper.proofs.Lengths.{gather-append, length-keep, length-from}
-use Rattle.paper.proofs.Bytes.{Bytes, went-on, same-read, whole-is, values-are, length-listed}
+use Rattle.paper.proofs.Lengths.{gather-append}
 use Rattle.paper.proofs.Members.{in-keep-below}
 use Rattle.paper.proofs.Given.{not-listed}
 use Rattle.paper.proofs.Tables.{GoodTable, upper-fits}
 use Rattle.marking.specs.Values.{isListed, listedNodes, saidOf, ValuesNoted, ValuesRead}
 use Rattle.marking_held.specs.declared.Held.{Held}
-use Rattle.marking_held.proofs.HeldLaws.{held-nodes}
-use Rattle.marking_held.specs.MarkingHeld.{Narrowed, StockHeld, MarkingHeld}
+use Rattle.marking_held.proofs.HeldLaws.{stock-stays}
+use Rattle.marking_held.specs.MarkingHeld.{StockHeld, MarkingHeld}
 use Rattle.marking_give.specs.declared.GiveAnswer.{GiveAnswer}
 use Rattle.marking_give.specs.Giving.{gained, Amounts, CountsAre, Gained, giveOf, Givable, Gives}
 use Rattle.marking.specs.declared.values.ValuesAnswer.the-variants.{Good, Refused}
@@ -41,37 +40,6 @@ pub lists-good : (t : List ℕ) (k o : ℕ) (b place more : List ℕ) (l : Optio
     → (vss : List (List ℕ)) × (l ≡ some vss) × ((i : ℕ) → i < nodes t → ValuesNoted b (listFor i (listedNodes t k o) vss) (at place i) (at more i))
 lists-good t k o b place more none h = no-good (sym h)
 lists-good t k o b place more (some vss) h = (vss, refl, h .1)
-
--- two bytes say every place in lists that were read
-lists-short : (ps b : List ℕ) (vss : List (List ℕ)) (rest : List ℕ) → Bytes b → eachRead (λ p. valuesRead (limits .mostUpper)) ps b ≡ some (vss, rest)
-    → length b ≤ 65 * length ps + length rest
-lists-short [] b vss rest u h = omega (arith, ap length (same-read h .1))
-lists-short (p ∷ ps) b vss rest u h =
-    let f = went-on (valuesRead (limits .mostUpper) b) (λ x. eachRead (λ p. valuesRead (limits .mostUpper)) ps then (λ xs. done (x ∷ xs))) (vss, rest) h in
-    let v = values-are (limits .mostUpper) b (f .0 .0) (f .0 .1) u (f .1) in
-    let g = went-on (eachRead (λ p. valuesRead (limits .mostUpper)) ps (f .0 .1)) (λ xs. done (f .0 .0 ∷ xs)) (vss, rest) (f .2) in
-    let more = lists-short ps (f .0 .1) (g .0 .0) (g .0 .1) (v .stand .left) (g .1) in
-    omega (
-      arith,
-      more,
-      v .many,
-      ap length (v .stand .parts),
-      length-append (listed (f .0 .0)) (f .0 .1),
-      length-listed (f .0 .0),
-      ap length (same-read (g .2) .1),
-    )
-
-pub values-short : (t : List ℕ) (k o : ℕ) (b : List ℕ) (vss : List (List ℕ)) → nodes t ≤ 48 → Bytes b → valueLists (listedNodes t k o) b ≡ some vss
-    → length b < 65536
-unfolding valueLists listedNodes
-values-short t k o b vss n u h =
-    let r = whole-is (eachRead (λ p. valuesRead (limits .mostUpper)) (keep (isListed t k o) (below (nodes t))) b) vss h in
-    omega (
-      arith,
-      lists-short (keep (isListed t k o) (below (nodes t))) b vss [] u r,
-      length-keep (isListed t k o) (below (nodes t)),
-      length-from 0 (nodes t),
-    )
 
 module _ (t : List ℕ) (k o : ℕ) (fires : ℕ → Bool) (m : Marking) (b : List ℕ) where
   abbrev then-held : List (List ℕ) → Marking
@@ -89,17 +57,17 @@ module _ (t : List ℕ) (k o : ℕ) (fires : ℕ → Bool) (m : Marking) (b : Li
   unfolding giveOf
   give-all vss e r = rw (e, r)
 
-  module _ (old : List ℕ) (x : Held) (g : Givable t k o m old x) (places more : List ℕ) where
-    pub gives-15 : (n p : ℕ) (r : GiveAnswer) → r .answer ≡ Refused n p → ValuesRead t k o b places more (valueLists (listedNodes t k o) b) (Refused n p)
+  module _ (old : List ℕ) (x : Held) (g : Givable t k o m old x) (place more : List ℕ) where
+    pub gives-15 : (n p : ℕ) (r : GiveAnswer) → r .answer ≡ Refused n p → ValuesRead t k o b place more (valueLists (listedNodes t k o) b) (Refused n p)
         → Gives t old b (giveOf t k o fires m b) r
     gives-15 n p r e h =
-        let z = lists-refused t k o b places more (valueLists (listedNodes t k o) b) n p h in
+        let z = lists-refused t k o b place more (valueLists (listedNodes t k o) b) n p h in
         rw (give-15 (z .0)) (ap saidOf e ∙ z .1)
 
-    module _ (h : ValuesRead t k o b places more (valueLists (listedNodes t k o) b) Good) where
+    module _ (h : ValuesRead t k o b place more (valueLists (listedNodes t k o) b) Good) where
       abbrev read : (vss : List (List ℕ)) × (valueLists (listedNodes t k o) b ≡ some vss)
-          × ((i : ℕ) → i < nodes t → ValuesNoted b (listFor i (listedNodes t k o) vss) (at places i) (at more i))
-      read = lists-good t k o b places more (valueLists (listedNodes t k o) b) h
+          × ((i : ℕ) → i < nodes t → ValuesNoted b (listFor i (listedNodes t k o) vss) (at place i) (at more i))
+      read = lists-good t k o b place more (valueLists (listedNodes t k o) b) h
 
       abbrev held : ℕ → ℕ
       held i = length (m .stock i ++ listFor i (listedNodes t k o) (read .0))
@@ -107,7 +75,7 @@ module _ (t : List ℕ) (k o : ℕ) (fires : ℕ → Bool) (m : Marking) (b : Li
       pub amounts : Amounts t held (x .kept) more
       unfolding listedNodes
       amounts = record {
-        stock = λ i l s. sym (length-append (m .stock i) (listFor i (listedNodes t k o) (read .0)) ∙ ap₂ _+_ (sym (held-nodes (g .held) .stocks i l s .many)) (sym (read .2 i l .many)));
+        stock = λ i l s. sym (length-append (m .stock i) (listFor i (listedNodes t k o) (read .0)) ∙ ap₂ _+_ (sym (stock-stays (g .held) i l s .many)) (sym (read .2 i l .many)));
         none = λ i l s.
             let e = g .no-stock i (rw (s, lt-ltb i (nodes t) l)) in
             let q = not-listed i (listedNodes t k o) (read .0)
@@ -132,7 +100,7 @@ module _ (t : List ℕ) (k o : ℕ) (fires : ℕ → Bool) (m : Marking) (b : Li
             → Gives t old b (giveOf t k o fires m b) r
         gives-16-counts r a tokens w = rw (give-16 (read .0) (read .1) (counts-say false (w .0))) (ap saidOf a)
 
-        module _ (good-t : GoodTable t limits) (few : nodes t ≤ 48) (u : Bytes b) {place : List ℕ} (n : Narrowed places place 48) where
+        module _ (good-t : GoodTable t limits) where
           abbrev now-held : List ℕ → Held
           now-held tokens = record { from = x .from; kept = x .kept; place = place; more = more; runs = x .runs; tokens = tokens }
 
@@ -140,10 +108,9 @@ module _ (t : List ℕ) (k o : ℕ) (fires : ℕ → Bool) (m : Marking) (b : Li
               → StockHeld (m .stock i ++ listFor i (listedNodes t k o) (read .0)) old b (at (x .from) i) (at (x .kept) i) (at place i) (at more i)
           stock-now i l s =
               let w = read .2 i l in
-              let same : at place i ≡ at places i = n .same i (omega arith) (omega (arith, w .inside, values-short t k o b (read .0) few u (read .1))) in
               record {
                 many = sym (amounts .stock i l s);
-                stand = gather-append four (m .stock i) (listFor i (listedNodes t k o) (read .0)) ∙ rw same (ap₂ _++_ (held-nodes (g .held) .stocks i l s .stand) (w .stand));
+                stand = gather-append four (m .stock i) (listFor i (listedNodes t k o) (read .0)) ∙ ap₂ _++_ (stock-stays (g .held) i l s .stand) (w .stand);
                 inside = record {
                   few = omega (
                     arith,
@@ -152,7 +119,7 @@ module _ (t : List ℕ) (k o : ℕ) (fires : ℕ → Bool) (m : Marking) (b : Li
                     upper-fits (good-t .node i l),
                   );
                   in-old = g .held .stocks i l s .inside .in-old;
-                  in-extra = omega (arith, same, w .inside);
+                  in-extra = w .inside;
                 };
               }
 

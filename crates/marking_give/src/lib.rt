@@ -131,18 +131,18 @@ pub fn give(
     ensures { λ r. ⌜ HeldLengths (r .held) × ((m : Marking) (old : List ℕ) → Givable (now (t .entry)) (listing .kind) (listing .owner) m old held
         → Gives (now (t .entry)) old (now (values .entry)) (giveOf (now (t .entry)) (listing .kind) (listing .owner) (firesAs (now (t .entry)) firing) m (now (values .entry))) r) ⌝ }
 {
-    let mut places = [0usize; Table::MOST_NODES];
+    let mut place = [0u16; Table::MOST_NODES];
     let mut more = [0u8; Table::MOST_NODES];
-    if let ValuesAnswer::Refused(number, place) = read_values(
+    if let ValuesAnswer::Refused(number, at) = read_values(
         t,
         table,
         listing.kind,
         listing.owner,
         values,
-        &mut places,
+        &mut place,
         &mut more,
     ) {
-        return refused(number, place, held);
+        return refused(number, at, held);
     }
     let kept = held.kept;
     if !stocks_fit(t, table, &kept, &more) {
@@ -154,7 +154,6 @@ pub fn give(
     }
     let from = held.from;
     let runs = held.runs;
-    let place = marking_held::narrow(&places);
     let given = Held {
         from: from,
         kept: kept,

@@ -1,4 +1,4 @@
--- Laws of a marking held by value: how it is filled as it is read, what an action that is idle again leaves, and what nothing holds. Assumes nothing.
+-- Laws of a marking held by value: what is held as it was read, what an action that is idle again leaves, and what nothing holds. Assumes nothing.
 use mathlib.Core.Path.{_≡_, refl, sym, ap, _∙_}
 use Prim.Native.Nat.{ℕ, _+_, _*_, _≤_, _<_}
 use native.Mathlib.Omega.{arith}
@@ -6,11 +6,10 @@ use mathlib.Core.Bool.{Bool, true, false, not, _&&_, cond}
 use mathlib.Core.List.{List, [], _++_, append-nil}
 use mathlib.Core.Option.{Option, none, some}
 use lib.Dec.{eqb, ltb}
-use lib.ListN.{length, take, drop, set, replicate, length-set}
+use lib.ListN.{take, drop, set, replicate, length-set}
 use lib.Seq.{getD-set-same, getD-set-other}
 use borrow.Author.Tests.{eqb-true, eqb-false, lt-ltb, le-ltb}
 use Rattle.paper.specs.Lists.{at, oneIf}
-use Rattle.paper.specs.Answers.{good}
 use Rattle.paper.specs.Limits.{limits}
 use Rattle.paper.specs.Table.{nodes, edges, kind, isObjectNode}
 use Rattle.paper.specs.Marking.{Marking, marking, blank, Good}
@@ -18,103 +17,18 @@ use Rattle.paper.specs.Operations.{idled}
 use Rattle.paper.proofs.Bytes.{Bytes}
 use Rattle.paper.proofs.Ladders.{no-good, same-good}
 use Rattle.paper.proofs.Tables.{GoodTable, upper-fits}
-use Rattle.paper.proofs.OneMarking.{read-is-good, encode-fits}
-use Rattle.table.specs.declared.Table.{Table}
-use Rattle.table.specs.Reading.{tableRead}
-use Rattle.table.proofs.Reading.{read-fine, blank as zeros}
+use Rattle.paper.proofs.OneMarking.{read-is-good}
+use Rattle.table.proofs.Reading.{blank as zeros}
 use Rattle.marking.specs.declared.reading.MarkingAnswer.{MarkingAnswer}
 use Rattle.marking.specs.declared.reading.MarkingAnswer.the-variants.{Live, Ended, Refused}
 use Rattle.marking.specs.Reading.{said, MarkingRead}
 use Rattle.marking.specs.Values.{isListed, ValuesNoted}
 use Rattle.marking_held.specs.declared.Held.{Held}
 use Rattle.marking_held.specs.declared.HeldAnswer.{HeldAnswer}
-use Rattle.marking_held.specs.Holding.{NodesHeld, EdgesHeld}
-use Rattle.marking_held.specs.MarkingHeld.{StockHeld, MarkingHeld, HeldInside, HeldLengths, NothingHeld, LiveMarking, Narrowed, NodesHeldIn, EdgesHeldIn, ReadUp}
-use Rattle.marking_held.proofs.HoldingLaws.{set-more, held-none, held-more, counts-more, some-emptied}
-
--- ---- filling
-pub narrowed-more : {wide : List ℕ} (xs : List ℕ) (i x : ℕ) → i < 48 → Narrowed wide xs i → (at wide i < 65536 → x ≡ at wide i) → Narrowed wide (set xs i x) (i + 1)
-narrowed-more {wide} xs i x l h e = record {
-  long = length-set xs i x ∙ h .long;
-  same = set-more (λ k v. at wide k < 65536 → v ≡ at wide k) xs i x (omega (arith, h .long)) (h .same) e;
-}
-
-pub nodes-begin : (b fields : List ℕ) (x : Held) → HeldLengths x → NodesHeldIn b fields 0 x x
-nodes-begin b fields x h = record {
-  lengths = h;
-  same-place = refl;
-  same-more = refl;
-  nodes-held = λ t m s n. held-none (x .from) (x .kept) (x .runs);
-}
-
-pub nodes-more : {b fields : List ℕ} {x : Held} (y : Held) (i f v w : ℕ) → i < 48 → NodesHeldIn b fields i x y
-    → (at fields i < length b → length b < 65536 → f ≡ at fields i + 1) → (at fields i < length b → v ≡ at b (at fields i))
-    → (at fields i < length b → w ≡ at b (at fields i))
-    → NodesHeldIn b fields (i + 1) x (record {
-      from = set (y .from) i f;
-      kept = set (y .kept) i v;
-      place = y .place;
-      more = y .more;
-      runs = set (y .runs) i w;
-      tokens = y .tokens;
-    })
-nodes-more y i f v w l h ef ev ew =
-    let n = h .lengths in
-    record {
-      lengths = record {
-        from-long = length-set (y .from) i f ∙ n .from-long;
-        kept-long = length-set (y .kept) i v ∙ n .kept-long;
-        place-long = n .place-long;
-        more-long = n .more-long;
-        runs-long = length-set (y .runs) i w ∙ n .runs-long;
-        tokens-long = n .tokens-long;
-      };
-      same-place = h .same-place;
-      same-more = h .same-more;
-      nodes-held = λ t m s q.
-          held-more (y .from) (y .kept) (y .runs) i f v w (omega arith) (omega (arith, n .from-long)) (omega (arith, n .kept-long)) (omega (arith, n .runs-long))
-          q (h .nodes-held t m s (record { node = λ k u. q .node k (omega arith) })) (λ u. ef u s) ev ew;
-    }
-
-pub edges-begin : (b places : List ℕ) (x : Held) → HeldLengths x → EdgesHeldIn b places 0 x x
-edges-begin b places x h = record {
-  lengths = h;
-  same-from = refl;
-  same-kept = refl;
-  same-place = refl;
-  same-more = refl;
-  same-runs = refl;
-  edges-held = λ t m q. record { counts = λ j l. absurd (omega arith) };
-}
-
-pub edges-more : {b places : List ℕ} {x : Held} (y : Held) (j v : ℕ) → j < 64 → EdgesHeldIn b places j x y → (at places j < length b → v ≡ at b (at places j))
-    → EdgesHeldIn b places (j + 1) x (record { from = y .from; kept = y .kept; place = y .place; more = y .more; runs = y .runs; tokens = set (y .tokens) j v })
-edges-more y j v l h e =
-    let n = h .lengths in
-    record {
-      lengths = record {
-        from-long = n .from-long;
-        kept-long = n .kept-long;
-        place-long = n .place-long;
-        more-long = n .more-long;
-        runs-long = n .runs-long;
-        tokens-long = length-set (y .tokens) j v ∙ n .tokens-long;
-      };
-      same-from = h .same-from;
-      same-kept = h .same-kept;
-      same-place = h .same-place;
-      same-more = h .same-more;
-      same-runs = h .same-runs;
-      edges-held = λ t m q.
-          counts-more (y .tokens) j v (omega arith) (omega (arith, n .tokens-long)) q (h .edges-held t m (record { edge = λ k u. q .edge k (omega arith) })) e;
-    }
+use Rattle.marking_held.specs.MarkingHeld.{StockHeld, MarkingHeld, HeldInside, HeldLengths, NothingHeld, LiveMarking, ReadUp}
+use Rattle.marking_held.proofs.HoldingLaws.{some-emptied}
 
 -- ---- what a marking that was read holds
-module _ (t b : List ℕ) {y : Table} (e : tableRead t ≡ good y) (m : Marking) (u : Bytes b) (h : marking t b ≡ some m) where
-  -- two bytes say every place in it
-  pub marking-short : length b < 65536
-  marking-short = let r = read-is-good t b m u h in omega (arith, encode-fits t m (read-fine t e) (r .0), ap length (r .1))
-
 stock-kept : (b vs : List ℕ) (p n q k : ℕ) → ValuesNoted b vs p n → n ≤ 255 → q ≡ 0 → k ≡ 0 → StockHeld vs b [] p n q k
 stock-kept b vs p n q k v l eq ek = rw (eq, ek) (record {
   many = omega (arith, v .many);
@@ -122,26 +36,31 @@ stock-kept b vs p n q k v l eq ek = rw (eq, ek) (record {
   inside = record { few = omega arith; in-old = v .inside; in-extra = omega arith };
 })
 
-pub held-as-read : (t b fields counts : List ℕ) (x y z : Held) → GoodTable t limits → NothingHeld x → {n k : ℕ} → n ≡ nodes t → k ≡ edges t
-    → NodesHeldIn b fields n x y → EdgesHeldIn b counts k y z → (o : Option Marking) (r : MarkingAnswer) → MarkingRead t b fields counts o r
-    → ((m : Marking) → o ≡ some m → length b < 65536) → ReadUp t b o (record { answer = r; held = z })
-held-as-read t b fields counts x y z g n en ek p q none r h s = h
-held-as-read t b fields counts x y z g n en ek p q (some m) r h s =
-    let w : NodesHeld t m b (y .from) (y .kept) (y .runs) (nodes t) = rw en at (p .nodes-held t m (s m refl) (rw en (h .1))) in
-    let u : EdgesHeld t (m .tokens) (z .tokens) (edges t) = rw ek at (q .edges-held t m (rw ek (h .2))) in
-    let no-place : z .place ≡ x .place = q .same-place ∙ p .same-place in
-    let no-more : z .more ≡ x .more = q .same-more ∙ p .same-more in (
-      h .0,
-      record {
-        stocks = λ i l o.
-            let v = w .stocks i l o in
-            rw (q .same-from, q .same-kept, no-place, no-more)
-            (stock-kept b (m .stock i) (at (y .from) i) (at (y .kept) i) (at (x .place) i) (at (x .more) i) v
-            (omega (arith, v .many, h .1 .node i l .room o, upper-fits (g .node i l))) (n .no-place i) (n .no-more i));
-        running = λ i l a. rw (q .same-runs) (w .running i l a);
-        counts = u .counts;
-      },
-    )
+-- nothing for each node, and for each edge
+abbrev pub noNodes : List ℕ
+noNodes = replicate (limits .mostNodes) 0
+
+abbrev pub noEdges : List ℕ
+noEdges = replicate (limits .mostEdges) 0
+
+-- what was read, of which nothing comes
+abbrev pub heldOf : List ℕ → List ℕ → List ℕ → Held
+heldOf f k o = record { from = f; kept = k; place = noNodes; more = noNodes; runs = k; tokens = o }
+
+pub held-as-read : (t b from kept tokens : List ℕ) → GoodTable t limits → (o : Option Marking) (r : MarkingAnswer) → MarkingRead t b from kept tokens o r
+    → ReadUp t b o (record { answer = r; held = heldOf from kept tokens })
+held-as-read t b from kept tokens g none r h = h
+held-as-read t b from kept tokens g (some m) r h = (
+  h .0,
+  record {
+    stocks = λ i l o.
+        let n = h .1 .node i l in
+        stock-kept b (m .stock i) (at from i) (at kept i) (at noNodes i) (at noNodes i) (n .stock o)
+        (omega (arith, n .stock o .many, n .room o, upper-fits (g .node i l))) (zeros (limits .mostNodes) i) (zeros (limits .mostNodes) i);
+    running = λ i l a. h .1 .node i l .runs a;
+    counts = λ j l c. h .2 .edge j l .count c;
+  },
+)
 
 -- ---- the answer taken apart
 module _ (t b : List ℕ) (r : HeldAnswer) where
@@ -203,7 +122,7 @@ pins-begin t a x h = record {
   mores = λ k. sym (rw (le-ltb k 0 (omega arith)));
 }
 
-module _ {t : List ℕ} {a : ℕ} {x : Held} (y : Held) (i : ℕ) (l : i < 48) (h : PinsEmptied t a i x y) {r : Bool} (q : r ≡ isListed t 3 a i) where
+module _ {t : List ℕ} {a : ℕ} {x : Held} (y : Held) (i : ℕ) (l : i < limits .mostNodes) (h : PinsEmptied t a i x y) {r : Bool} (q : r ≡ isListed t 3 a i) where
   pub pins-more : r ≡ true
       → PinsEmptied t a (i + 1) x (record {
         from = y .from;
@@ -260,7 +179,7 @@ emptied-stock vs old extra f k p n k′ n′ true v e g =
     })
 emptied-stock vs old extra f k p n k′ n′ false v e g = rw (e, g) v
 
-pub idle-held : (t : List ℕ) (a : ℕ) (x y : Held) → a < 48 → HeldLengths x → PinsEmptied t a (nodes t) (stopped x a) y
+pub idle-held : (t : List ℕ) (a : ℕ) (x y : Held) → a < limits .mostNodes → HeldLengths x → PinsEmptied t a (nodes t) (stopped x a) y
     → (m : Marking) (old extra : List ℕ) → MarkingHeld t m old extra x → MarkingHeld t (idled t a m) old extra y
 unfolding idled
 idle-held t a x y l n p m old extra h = record {
@@ -287,32 +206,26 @@ nothing-held x n t old extra e = record {
   counts = λ j l c. n .no-tokens j;
 }
 
-pub zeros-held : NothingHeld (record {
-  from = replicate 48 0;
-  kept = replicate 48 0;
-  place = replicate 48 0;
-  more = replicate 48 0;
-  runs = replicate 48 0;
-  tokens = replicate 64 0;
-})
+pub zeros-held : NothingHeld (record { from = noNodes; kept = noNodes; place = noNodes; more = noNodes; runs = noNodes; tokens = noEdges })
 zeros-held = record {
   lengths = record { from-long = refl; kept-long = refl; place-long = refl; more-long = refl; runs-long = refl; tokens-long = refl };
-  no-from = zeros 48;
-  no-kept = zeros 48;
-  no-place = zeros 48;
-  no-more = zeros 48;
-  no-runs = zeros 48;
-  no-tokens = zeros 64;
+  no-from = zeros (limits .mostNodes);
+  no-kept = zeros (limits .mostNodes);
+  no-place = zeros (limits .mostNodes);
+  no-more = zeros (limits .mostNodes);
+  no-runs = zeros (limits .mostNodes);
+  no-tokens = zeros (limits .mostEdges);
 }
 
 -- ---- what is written stands in its bytes
 pub held-inside : {t : List ℕ} {m : Marking} {old extra : List ℕ} {x : Held} → MarkingHeld t m old extra x → HeldInside t old extra x
 held-inside h = record { stock = λ i l o. h .stocks i l o .inside }
 
--- ---- what the older records say, where nothing comes
+-- ---- where nothing comes
 module _ {t : List ℕ} {m : Marking} {old : List ℕ} {x : Held} (h : MarkingHeld t m old [] x) where
-  stock-noted-now : (i : ℕ) → i < nodes t → isObjectNode (kind t i) ≡ true → ValuesNoted old (m .stock i) (at (x .from) i) (at (x .kept) i)
-  stock-noted-now i l o =
+  -- all values of a stock stay
+  pub stock-stays : (i : ℕ) → i < nodes t → isObjectNode (kind t i) ≡ true → ValuesNoted old (m .stock i) (at (x .from) i) (at (x .kept) i)
+  stock-stays i l o =
       let s = h .stocks i l o in
       let none-comes : at (x .more) i ≡ 0 = omega (arith, s .inside .in-extra) in
       let stays = take (4 * at (x .kept) i) (drop (at (x .from) i) old) in
@@ -321,9 +234,3 @@ module _ {t : List ℕ} {m : Marking} {old : List ℕ} {x : Held} (h : MarkingHe
         stand = s .stand ∙ ap (λ (n : ℕ). stays ++ take (4 * n) (drop (at (x .place) i) [])) none-comes ∙ append-nil stays;
         inside = s .inside .in-old;
       }
-
-  pub held-nodes : NodesHeld t m old (x .from) (x .kept) (x .runs) (nodes t)
-  held-nodes = record { stocks = stock-noted-now; running = h .running }
-
-  pub held-edges : EdgesHeld t (m .tokens) (x .tokens) (edges t)
-  held-edges = record { counts = h .counts }

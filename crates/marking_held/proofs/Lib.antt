@@ -2,4 +2,3 @@
 pub mod Fillings
 pub mod HoldingLaws
 pub mod HeldLaws
-pub mod TakenUp

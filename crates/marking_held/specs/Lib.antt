@@ -1,5 +1,3 @@
 -- What the code that changes a marking promises, in the paper's words.
 pub mod Filling
-pub mod Holding
 pub mod MarkingHeld
-pub mod TakenUp

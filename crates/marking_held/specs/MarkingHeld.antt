@@ -7,14 +7,14 @@ use mathlib.Core.Option.{Option, none, some}
 use lib.ListN.{length, take, drop}
 use Rattle.paper.specs.Lists.{at, oneIf, gather}
 use Rattle.paper.specs.Bytes.{four}
+use Rattle.paper.specs.Limits.{limits}
 use Rattle.paper.specs.Answers.{refused, good}
 use Rattle.paper.specs.Table.{nodes, edges, kind, isObjectNode, isAction}
 use Rattle.paper.specs.Marking.{Marking, counted, marking}
 use Rattle.table.specs.Reading.{Blank}
-use Rattle.marking.specs.Reading.{NodesNoted, EdgesNoted, said}
+use Rattle.marking.specs.Reading.{said}
 use Rattle.marking_held.specs.declared.Held.{Held}
 use Rattle.marking_held.specs.declared.HeldAnswer.{HeldAnswer}
-use Rattle.marking_held.specs.Holding.{NodesHeld, EdgesHeld}
 
 -- `kept` values stand in `old` from place `from` on, `more` values in `extra` from `place` on, and a byte says how many they are
 pub record StockInside (old extra : List ℕ) (from kept place more : ℕ) : Type 0 where
@@ -43,12 +43,12 @@ pub record HeldInside (t old extra : List ℕ) (x : Held) : Type 0 where
 
 -- the arrays have the lengths that they are declared with, which their types as lists don't say
 pub record HeldLengths (x : Held) : Type 0 where
-  pub from-long : length (x .from) ≡ 48
-  pub kept-long : length (x .kept) ≡ 48
-  pub place-long : length (x .place) ≡ 48
-  pub more-long : length (x .more) ≡ 48
-  pub runs-long : length (x .runs) ≡ 48
-  pub tokens-long : length (x .tokens) ≡ 64
+  pub from-long : length (x .from) ≡ limits .mostNodes
+  pub kept-long : length (x .kept) ≡ limits .mostNodes
+  pub place-long : length (x .place) ≡ limits .mostNodes
+  pub more-long : length (x .more) ≡ limits .mostNodes
+  pub runs-long : length (x .runs) ≡ limits .mostNodes
+  pub tokens-long : length (x .tokens) ≡ limits .mostEdges
 
 pub record NothingHeld (x : Held) : Type 0 where
   pub lengths : HeldLengths x
@@ -68,28 +68,6 @@ pub record LiveMarking (t b : List ℕ) (x : Held) : Type 0 where
   pub lengths : HeldLengths x
 
 -- ---- reading
--- the first n places, those that two bytes say, are the same
-pub record Narrowed (wide narrow : List ℕ) (n : ℕ) : Type 0 where
-  pub long : length narrow ≡ 48
-  pub same : (i : ℕ) → i < n → at wide i < 65536 → at narrow i ≡ at wide i
-
--- y holds what stands at the places of the first n nodes, and of x what comes
-pub record NodesHeldIn (b fields : List ℕ) (n : ℕ) (x y : Held) : Type 0 where
-  pub lengths : HeldLengths y
-  pub same-place : y .place ≡ x .place
-  pub same-more : y .more ≡ x .more
-  pub nodes-held : (t : List ℕ) (m : Marking) → length b < 65536 → NodesNoted t m b fields n → NodesHeld t m b (y .from) (y .kept) (y .runs) n
-
--- y holds the counts that stand at the places of the first n edges, and of x the nodes
-pub record EdgesHeldIn (b places : List ℕ) (n : ℕ) (x y : Held) : Type 0 where
-  pub lengths : HeldLengths y
-  pub same-from : y .from ≡ x .from
-  pub same-kept : y .kept ≡ x .kept
-  pub same-place : y .place ≡ x .place
-  pub same-more : y .more ≡ x .more
-  pub same-runs : y .runs ≡ x .runs
-  pub edges-held : (t : List ℕ) (m : Marking) → EdgesNoted t m b places n → EdgesHeld t (m .tokens) (y .tokens) n
-
 -- row 5, and what a marking that was read holds
 abbrev pub ReadUp : List ℕ → List ℕ → Option Marking → HeldAnswer → Type 0
 ReadUp t b none r = said (r .answer) ≡ refused 5 0

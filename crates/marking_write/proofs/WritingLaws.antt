@@ -20,9 +20,9 @@ use Rattle.wire.proofs.Laws.{sets-then, sets-front}
 use Rattle.wire.proofs.Runs.{gather-same, length-total, part-length, run-more}
 use Rattle.marking.specs.Reading.{edgeFields}
 use Rattle.marking_held.specs.declared.Held.{Held}
-use Rattle.marking_held.specs.MarkingHeld.{Narrowed, MarkingHeld, HeldInside}
+use Rattle.marking_held.specs.MarkingHeld.{MarkingHeld, HeldInside}
 use Rattle.marking_write.specs.declared.NodeHeld.{NodeHeld}
-use Rattle.marking_write.specs.Writing.{nodeAt, NodeInside, sizeAs, nodeSize, edgeSize, sizeOf, stockBytes, fieldBytes, nodeBytes, edgeBytes, Becomes, Sources}
+use Rattle.marking_write.specs.Writing.{nodeAt, NodeInside, sizeAs, nodeSize, edgeSize, sizeOf, stockBytes, fieldBytes, nodeBytes, edgeBytes}
 use Rattle.marking.proofs.Laws.{layout-is}
 
 -- ---- a stock
@@ -216,20 +216,3 @@ module _ {t : List ℕ} {m : Marking} {old extra : List ℕ} {x : Held} (b : Mar
       ∙ sets-before head (nodePart ++ edgePart) d 0
       ∙ ap (sets d 0) w
       ∙ sets-front (encode t m) d (omega (arith, size-is))
-
--- ---- what the older form says
--- what the slices describe, held: every place in these bytes is one that two bytes say
-pub slices-held : {t : List ℕ} {m : Marking} {old from kept extra place more runs tokens : List ℕ} → Becomes t m old from kept extra place more runs tokens
-    → Sources t old from kept extra place more runs tokens → nodes t ≤ 48 → length old < 65536 → length extra < 65536
-    → {from′ place′ : List ℕ} → Narrowed from from′ 48 → Narrowed place place′ 48
-    → MarkingHeld t m old extra (record { from = from′; kept = kept; place = place′; more = more; runs = runs; tokens = tokens })
-slices-held b s n u v f p = record {
-  stocks = λ i l o.
-      let a = s .of-nodes .in-old i l o in
-      let c = s .of-nodes .in-extra i l o in
-      let ef = f .same i (omega arith) (omega arith) in
-      let ep = p .same i (omega arith) (omega arith) in
-      rw (ef, ep) (record { many = b .stocks i l o .0; stand = b .stocks i l o .1; inside = record { few = s .of-nodes .few i l o; in-old = a; in-extra = c } });
-  running = b .running;
-  counts = b .counts;
-}

@@ -10,6 +10,7 @@ ghost use Prim.Native.Nat.{ℕ, _+_, _*_, _≤_, _<_};
 ghost use lib.ListN.{length, drop};
 ghost use lib.Seq.{sets};
 ghost use Rattle.paper.specs.Lists.{at, below, gather, oneIf};
+ghost use Rattle.paper.specs.Limits.{limits};
 ghost use Rattle.paper.specs.Table.{nodes, edges, isObjectNode};
 ghost use Rattle.paper.specs.Marking.{Marking, encode};
 ghost use Rattle.paper.specs.Answers.{good};
@@ -17,10 +18,10 @@ ghost use Rattle.paper.specs.Operations.{inRoom, Reply};
 ghost use Rattle.table.specs.Reading.{Spans, tableRead};
 ghost use Rattle.wire.specs.Totals.{total};
 ghost use Rattle.marking_held.specs.MarkingHeld.{MarkingHeld, HeldInside};
-ghost use Rattle.marking_write.specs.Writing.{NodeInside, SizeFits, sizeAs, nodeSize, edgeSize, sizeOf, stockBytes, fieldBytes, nodeBytes, edgeBytes};
+ghost use Rattle.marking_write.specs.Writing.{NodeInside, SizeFits, sizeAs, mostNodeSize, nodeSize, edgeSize, sizeOf, mostSize, stockBytes, fieldBytes, nodeBytes, edgeBytes};
 
 // What is held of one node.
-pub struct NodeHeld {
+struct NodeHeld {
     pub from: u16,
     pub kept: u8,
     pub place: u16,
@@ -38,7 +39,7 @@ fn place_of(x: u16) -> usize
 // What the field of a node takes, which has kind k and will hold so many values.
 fn node_size(k: usize, values: usize) -> usize
     requires { ⌜ values ≤ 510 ⌝ }
-    ensures { λ r. ⌜ (r ≡ sizeAs k values) × (r ≤ 2041) ⌝ }
+    ensures { λ r. ⌜ (r ≡ sizeAs k values) × (r ≤ mostNodeSize) ⌝ }
 {
     if table::is_object_node(k) {
         return 1 + 4 * values;
@@ -57,7 +58,7 @@ fn nodes_size(
     more: [u8; Table::MOST_NODES],
 ) -> usize
     requires { ⌜ Spans (now t) table ⌝ }
-    ensures { λ r. ⌜ (r ≡ total (nodeSize (now (t .entry)) kept more) (nodes (now (t .entry)))) × (r ≤ 97968) ⌝ }
+    ensures { λ r. ⌜ (r ≡ total (nodeSize (now (t .entry)) kept more) (nodes (now (t .entry)))) × (r ≤ limits .mostNodes * mostNodeSize) ⌝ }
 {
     let n = table.nodes;
     let mut taken: usize = 0;
@@ -83,7 +84,7 @@ fn edge_size(t: &[u8], table: Table, j: usize) -> usize
 // What the edges' counts take.
 fn edges_size(t: &[u8], table: Table) -> usize
     requires { ⌜ tableRead (now t) ≡ good table ⌝ }
-    ensures { λ r. ⌜ (r ≡ total (edgeSize (now (t .entry))) (edges (now (t .entry)))) × (r ≤ 64) ⌝ }
+    ensures { λ r. ⌜ (r ≡ total (edgeSize (now (t .entry))) (edges (now (t .entry)))) × (r ≤ limits .mostEdges) ⌝ }
 {
     let n = table.edges;
     let mut taken: usize = 0;
@@ -98,7 +99,7 @@ fn edges_size(t: &[u8], table: Table) -> usize
 // What the marking takes.
 fn size(t: &[u8], table: Table, held: Held) -> usize
     requires { ⌜ tableRead (now t) ≡ good table ⌝ }
-    ensures { λ r. ⌜ (r ≡ sizeOf (now (t .entry)) (held .kept) (held .more)) × (4 ≤ r) × (r ≤ 98036) ⌝ }
+    ensures { λ r. ⌜ (r ≡ sizeOf (now (t .entry)) (held .kept) (held .more)) × (4 ≤ r) × (r ≤ mostSize) ⌝ }
 {
     let kept = held.kept;
     let more = held.more;

@@ -42,6 +42,10 @@ pub record Rows : Type 0 where
   pub before : ℕ → ℕ → ℕ
   pub count : ℕ
 
+-- the cells of as many rows as there may be, 16 each
+abbrev pub rowCells : ℕ
+rowCells = 16 * limits .mostOffers
+
 -- cell k of row i
 abbrev pub cell : List ℕ → ℕ → ℕ → ℕ
 cell m i k = getD m (16 * i + k) 0
@@ -55,6 +59,10 @@ rowsIn m c = record {
 }
 
 -- ---- paths
+-- a number of paths as far as there is room for them
+abbrev pub upToEight : ℕ → ℕ
+upToEight x = cond (leb x 8) x 8
+
 -- path k of row i is the path p
 pub data Route (r : Rows) : ℕ → ℕ → List ℕ → Type 0 where
   begins : {i k : ℕ} → r .before i k ≡ 0 → Route r i k (r .entry i .last ∷ [])
@@ -196,7 +204,7 @@ pub record Names (t : List ℕ) (o : Onto) : Type 0 where
   pub kind-is : o .kind ≡ kind t (o .node)
 
 -- the edge leaves a control node
-pub record Leaves (t : List ℕ) (o : Onto) : Type 0 where
+pub record LeavesControl (t : List ℕ) (o : Onto) : Type 0 where
   pub names : Names t o
   pub control : isControlNode (kind t (source t (o .edge))) ≡ true
 
@@ -205,7 +213,7 @@ pub record Ext (t : List ℕ) (r : Rows) (ts xs : List Offer) (a b : ℕ) (o : O
   pub holds-ts : Holds t r ts
   pub seg : Seg ts a b xs
   pub distinct : Distinct (ts ++ overs (o .edge) (letOver lets xs))
-  pub leaves : Leaves t o
+  pub leaves : LeavesControl t o
 
 -- every edge's part of a list of c offers
 abbrev pub Ranges : List ℕ → List ℕ → ℕ → Type 0
@@ -214,7 +222,7 @@ Ranges a b c = (j : ℕ) → (getD a j 0 ≤ getD b j 0) × (getD b j 0 ≤ c)
 -- c rows in the cells m can be added to, and a and b have every edge's part of them
 pub record Space (m a b : List ℕ) (c : ℕ) : Type 0 where
   pub few : c ≤ limits .mostOffers
-  pub cells : 1024 ≤ length m
+  pub cells : rowCells ≤ length m
   pub parts : Ranges a b c
   pub lows : limits .mostEdges ≤ length a
   pub highs : limits .mostEdges ≤ length b
@@ -231,14 +239,14 @@ pub record Pass (t : List ℕ) (r : Rows) (ts : List Offer) (on : ℕ → List O
   pub list : ListFrom next (getD first (o .node) 0) (into t (o .node))
   pub segs : (j : ℕ) → j < edges t → target t j ≡ o .node → Seg ts (getD a j 0) (getD b j 0) (on j)
   pub distinct : Distinct (ts ++ overs (o .edge) (letOver lets (gather on (into t (o .node)))))
-  pub leaves : Leaves t o
+  pub leaves : LeavesControl t o
 
 -- a first offer on e, as the caller has read it: 0 none, 1 a token, 2 the value v
-abbrev pub startOf : ℕ → ℕ → ℕ → List Offer
-startOf e c v = cond (eqb c 0) [] (first e (valueOf (c - 1) v) ∷ [])
+abbrev pub begunOn : ℕ → ℕ → ℕ → List Offer
+begunOn e c v = cond (eqb c 0) [] (first e (valueOf (c - 1) v) ∷ [])
 
 -- it is to be put behind ts, if it is let over the edge
 pub record Begin (t : List ℕ) (r : Rows) (ts : List Offer) (o : Onto) (s : Start) (lets : Option ℕ → Bool) : Type 0 where
   pub holds-ts : Holds t r ts
-  pub distinct : Distinct (ts ++ letOver lets (startOf (o .edge) (s .code) (s .value)))
+  pub distinct : Distinct (ts ++ letOver lets (begunOn (o .edge) (s .code) (s .value)))
   pub names : Names t o

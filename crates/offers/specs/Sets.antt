@@ -36,5 +36,5 @@ pub record Foes (t : List ℕ) (ts : List Offer) (f m : ℕ) : Type 0 where
   pub says : (j : ℕ) → j < length ts → has f j ≡ any (λ k. has m k && early t ts j k) (below (length ts))
 
 -- two sets of makers, w and v, with their foes f and g, have offers that clash
-abbrev pub meets : ℕ → ℕ → ℕ → ℕ → Bool
-meets f w g v = not (eqb (bitAnd f v) 0) || not (eqb (bitAnd g w) 0)
+abbrev pub wordsClash : ℕ → ℕ → ℕ → ℕ → Bool
+wordsClash f w g v = not (eqb (bitAnd f v) 0) || not (eqb (bitAnd g w) 0)

@@ -8,20 +8,24 @@ use words::hits;
 ghost use mathlib.Core.Path.{_≡_};
 ghost use mathlib.Core.Bool.{true};
 ghost use mathlib.Core.List.{List, [], _∷_, _++_};
-ghost use Prim.Native.Nat.{ℕ, _+_, _*_, _≤_, _<_};
+ghost use Prim.Native.Nat.{ℕ, _+_, _*_, _%_, _≤_, _<_};
 ghost use lib.ListN.{length};
 ghost use Rattle.paper.specs.Lists.{gather};
 ghost use Rattle.paper.specs.Table.{into, isJoin};
 ghost use Rattle.paper.specs.Offers.{Offer, over};
 ghost use Rattle.paper.proofs.Members.{In};
-ghost use Rattle.offers.specs.Sets.{nth, meets};
-ghost use Rattle.offers.specs.Rows.{entryOf, rowsIn, cell, valueOf, admitted, letOver, Holds, Pushed, Controls, Hits, Ready, Led, Leaves, Outcome, overs, Ext, Space, Feeds, Pass, startOf, Begin};
+ghost use Rattle.offers.specs.Sets.{nth, wordsClash};
+ghost use Rattle.offers.specs.Rows.{entryOf, rowsIn, rowCells, cell, upToEight, valueOf, admitted, letOver, Holds, Pushed, Controls, Hits, Ready, Led, LeavesControl, Outcome, overs, Ext, Space, Feeds, Pass, begunOn, Begin};
+ghost use Rattle.paper.specs.Limits.{limits};
 
 // While they are built the rows stand in one lent slice, so that nothing but a slice and a count goes from call to call. A row is 16 cells: last
 // edge, the node it leaves, whether there is a value, the value, the number of paths, the words of parents, makers and foes, and for each path
 // what it goes on from, 0 for nothing and 8 * j + l + 1 for path l of row j. Foes are the earlier offers that clash with a maker, so that a new
 // row changes no old one; x and y compete exactly if the foes of one meet the makers of the other.
 pub const WIDTH: usize = 16;
+
+// The cells of as many rows as there may be.
+pub const CELLS: usize = WIDTH * MOST_OFFERS;
 
 // Places in a row; the last edge is at 0.
 pub const NODE: usize = 1;
@@ -47,16 +51,14 @@ pub const MOST_PATHS: usize = 8;
 
 pub const MOST_ENDS: usize = 20;
 
-// The list of offers: a row each. What their paths go on from stands beside it, as only the ends' paths are read from there.
+// The list of offers, by value, for those who judge and take ends: a row each, without what only ends are asked for, the numbers of paths, makers and foes, and
+// what paths go on from.
 pub struct Offers {
-    pub last: [u8; 64],
-    pub node: [u8; 64],
-    pub has: [u8; 64],
-    pub value: [u32; 64],
-    pub paths: [u8; 64],
-    pub parents: [u64; 64],
-    pub makers: [u64; 64],
-    pub foes: [u64; 64],
+    pub last: [u8; MOST_OFFERS],
+    pub node: [u8; MOST_OFFERS],
+    pub has: [u8; MOST_OFFERS],
+    pub value: [u32; MOST_OFFERS],
+    pub parents: [u64; MOST_OFFERS],
     pub count: usize,
 }
 
@@ -84,7 +86,7 @@ fn push(
     makers: u64,
     foes: u64,
 )
-    requires { ⌜ (count < 64) × (1024 ≤ length (now rows)) ⌝ }
+    requires { ⌜ (count < limits .mostOffers) × (rowCells ≤ length (now rows)) ⌝ }
     ensures { λ _. ⌜ Pushed (rowsIn (now (rows .entry)) count) (rowsIn (now (rows .exit)) (count + 1)) (entryOf (onto .edge) (onto .node) (worth .has) (worth .value) paths parents makers foes) ⌝ }
 {
     let at = WIDTH * count;
@@ -100,7 +102,7 @@ fn push(
 
 // The rows on control edges, those without a value. A join alone asks for them.
 fn controls(rows: &[u64], count: usize, k: u64) -> u64
-    requires { ⌜ (count ≤ 64) × (1024 ≤ length (now rows)) ⌝ }
+    requires { ⌜ (count ≤ limits .mostOffers) × (rowCells ≤ length (now rows)) ⌝ }
     ensures { λ r. ⌜ (isJoin k ≡ true → Controls (rowsIn (now (rows .entry)) count) count r) ⌝ }
 {
     if k != JOIN {
@@ -119,7 +121,7 @@ fn controls(rows: &[u64], count: usize, k: u64) -> u64
 
 // The rows that clash with a new one; c has those on control edges.
 fn clashes(rows: &[u64], count: usize, n: u64, k: u64, a: u64, c: u64) -> u64
-    requires { ⌜ (count ≤ 64) × (1024 ≤ length (now rows)) ⌝ }
+    requires { ⌜ (count ≤ limits .mostOffers) × (rowCells ≤ length (now rows)) ⌝ }
     ensures { λ r. ⌜ Hits (rowsIn (now (rows .entry)) count) n k a c count r ⌝ }
 {
     let mut d: u64 = 0;
@@ -151,7 +153,7 @@ pub fn grow(
     makers: u64,
     foes: u64,
 )
-    requires { ⌜ (count < 64) × (1024 ≤ length (now rows)) ⌝ }
+    requires { ⌜ (count < limits .mostOffers) × (rowCells ≤ length (now rows)) ⌝ }
     ensures { λ _. ⌜ ((t : List ℕ) (ts : List Offer) (x : Offer) → Holds t (rowsIn (now (rows .entry)) count) ts → Ready t (rowsIn (now (rows .entry)) count) ts x onto worth paths parents makers foes → Holds t (rowsIn (now (rows .exit)) (count + 1)) (ts ++ (x ∷ []))) ⌝ }
 {
     let n = onto.node as u64;
@@ -170,10 +172,10 @@ pub fn grow(
     );
 }
 
-// The number of paths of row i.
+// The number of paths of row i; no good list has more than 8 in a row.
 pub fn paths_of(rows: &[u64], i: usize) -> usize
-    requires { ⌜ (i < 64) × (1024 ≤ length (now rows)) ⌝ }
-    ensures { λ r. ⌜ (r ≤ 8) × (cell (now (rows .entry)) i 4 ≤ 8 → r ≡ cell (now (rows .entry)) i 4) ⌝ }
+    requires { ⌜ (i < limits .mostOffers) × (rowCells ≤ length (now rows)) ⌝ }
+    ensures { λ r. ⌜ (r ≡ upToEight (cell (now (rows .entry)) i 4)) × (r ≤ 8) ⌝ }
 {
     let p = rows[WIDTH * i + PATHS];
     if 8 < p {
@@ -182,9 +184,33 @@ pub fn paths_of(rows: &[u64], i: usize) -> usize
     p as usize
 }
 
+// The last edge of row i.
+pub fn last_of(rows: &[u64], i: usize) -> u8
+    requires { ⌜ (i < limits .mostOffers) × (rowCells ≤ length (now rows)) ⌝ }
+    ensures { λ r. ⌜ r ≡ rowsIn (now (rows .entry)) 0 .entry i .last % 256 ⌝ }
+{
+    (rows[WIDTH * i] % 256) as u8
+}
+
+// Whether row i has a value, 1 or 0.
+pub fn has_of(rows: &[u64], i: usize) -> u8
+    requires { ⌜ (i < limits .mostOffers) × (rowCells ≤ length (now rows)) ⌝ }
+    ensures { λ r. ⌜ r ≡ rowsIn (now (rows .entry)) 0 .entry i .has % 256 ⌝ }
+{
+    (rows[WIDTH * i + HAS] % 256) as u8
+}
+
+// The value of row i.
+pub fn value_of(rows: &[u64], i: usize) -> u32
+    requires { ⌜ (i < limits .mostOffers) × (rowCells ≤ length (now rows)) ⌝ }
+    ensures { λ r. ⌜ r ≡ rowsIn (now (rows .entry)) 0 .entry i .value % 4294967296 ⌝ }
+{
+    (rows[WIDTH * i + VALUE] % 4294967296) as u32
+}
+
 // The paths of row j, n of them, are what the row to come goes on from, from its path `at` on.
 pub fn lead(rows: &mut [u64], count: usize, at: usize, j: usize, n: usize)
-    requires { ⌜ ((count < 64) × (1024 ≤ length (now rows))) × ((at ≤ 1000) × ((j < 64) × (n ≤ 8))) ⌝ }
+    requires { ⌜ ((count < limits .mostOffers) × (rowCells ≤ length (now rows))) × ((at ≤ 1000) × ((j < limits .mostOffers) × (n ≤ 8))) ⌝ }
     ensures { λ _. ⌜ Led (now (rows .entry)) (now (rows .exit)) count at j n ⌝ }
 {
     let mut k: usize = 0;
@@ -198,7 +224,7 @@ pub fn lead(rows: &mut [u64], count: usize, at: usize, j: usize, n: usize)
 
 // Whether an offer with foes f and makers m competes with one that has foes g and makers n.
 pub fn compete(f: u64, m: u64, g: u64, n: u64) -> bool
-    ensures { λ r. ⌜ r ≡ meets f m g n ⌝ }
+    ensures { λ r. ⌜ r ≡ wordsClash f m g n ⌝ }
 {
     if f & n != 0 {
         return true;
@@ -242,8 +268,8 @@ pub struct Grown {
 
 // Offer i extended.
 fn extend(rows: &mut [u64], count: usize, i: usize, onto: Onto)
-    requires { ⌜ ((i < count) × (count < 64)) × (1024 ≤ length (now rows)) ⌝ }
-    ensures { λ _. ⌜ ((t : List ℕ) (ts : List Offer) → Holds t (rowsIn (now (rows .entry)) count) ts → (In (over (nth ts i) (onto .edge)) ts → ⊥) → Leaves t onto → Holds t (rowsIn (now (rows .exit)) (count + 1)) (ts ++ (over (nth ts i) (onto .edge) ∷ []))) ⌝ }
+    requires { ⌜ ((i < count) × (count < limits .mostOffers)) × (rowCells ≤ length (now rows)) ⌝ }
+    ensures { λ _. ⌜ ((t : List ℕ) (ts : List Offer) → Holds t (rowsIn (now (rows .entry)) count) ts → (In (over (nth ts i) (onto .edge)) ts → ⊥) → LeavesControl t onto → Holds t (rowsIn (now (rows .exit)) (count + 1)) (ts ++ (over (nth ts i) (onto .edge) ∷ []))) ⌝ }
 {
     let p = paths_of(rows, i);
     lead(rows, count, 0, i, p);
@@ -259,8 +285,8 @@ fn extend(rows: &mut [u64], count: usize, i: usize, onto: Onto)
 
 // Offer i extended, if the gate lets it. One that it bars is not counted, however full the rows are.
 fn extend_one(rows: &mut [u64], count: usize, i: usize, onto: Onto, gate: Gate) -> Grown
-    requires { ⌜ ((i < count) × (count ≤ 64)) × (1024 ≤ length (now rows)) ⌝ }
-    ensures { λ r. ⌜ ((count ≤ r .count) × (r .count ≤ 64)) × ((t : List ℕ) (ts : List Offer) (x : Offer) → Ext t (rowsIn (now (rows .entry)) count) ts (x ∷ []) i (i + 1) onto (admitted gate) → Outcome t (rowsIn (now (rows .exit)) (r .count)) (r .ok) (ts ++ overs (onto .edge) (letOver (admitted gate) (x ∷ [])))) ⌝ }
+    requires { ⌜ ((i < count) × (count ≤ limits .mostOffers)) × (rowCells ≤ length (now rows)) ⌝ }
+    ensures { λ r. ⌜ ((count ≤ r .count) × (r .count ≤ limits .mostOffers)) × ((t : List ℕ) (ts : List Offer) (x : Offer) → Ext t (rowsIn (now (rows .entry)) count) ts (x ∷ []) i (i + 1) onto (admitted gate) → Outcome t (rowsIn (now (rows .exit)) (r .count)) (r .ok) (ts ++ overs (onto .edge) (letOver (admitted gate) (x ∷ [])))) ⌝ }
 {
     if !admits(gate, rows[WIDTH * i + HAS], rows[WIDTH * i + VALUE]) {
         return Grown {
@@ -283,8 +309,8 @@ fn extend_one(rows: &mut [u64], count: usize, i: usize, onto: Onto, gate: Gate) 
 
 // Those of the offers a to b that the gate lets over, extended.
 fn extend_all(rows: &mut [u64], count: usize, a: usize, b: usize, onto: Onto, gate: Gate) -> Grown
-    requires { ⌜ ((a ≤ b) × (b ≤ count)) × ((count ≤ 64) × (1024 ≤ length (now rows))) ⌝ }
-    ensures { λ r. ⌜ ((count ≤ r .count) × (r .count ≤ 64)) × ((t : List ℕ) (ts xs : List Offer) → Ext t (rowsIn (now (rows .entry)) count) ts xs a b onto (admitted gate) → Outcome t (rowsIn (now (rows .exit)) (r .count)) (r .ok) (ts ++ overs (onto .edge) (letOver (admitted gate) xs))) ⌝ }
+    requires { ⌜ ((a ≤ b) × (b ≤ count)) × ((count ≤ limits .mostOffers) × (rowCells ≤ length (now rows))) ⌝ }
+    ensures { λ r. ⌜ ((count ≤ r .count) × (r .count ≤ limits .mostOffers)) × ((t : List ℕ) (ts xs : List Offer) → Ext t (rowsIn (now (rows .entry)) count) ts xs a b onto (admitted gate) → Outcome t (rowsIn (now (rows .exit)) (r .count)) (r .ok) (ts ++ overs (onto .edge) (letOver (admitted gate) xs))) ⌝ }
 {
     let mut c = count;
     let mut i = a;
@@ -307,8 +333,8 @@ pub struct Start {
 
 // A first offer, if there is one and the gate lets it.
 pub fn begin(rows: &mut [u64], count: usize, onto: Onto, gate: Gate, start: Start) -> Grown
-    requires { ⌜ (count ≤ 64) × (1024 ≤ length (now rows)) ⌝ }
-    ensures { λ r. ⌜ ((count ≤ r .count) × (r .count ≤ 64)) × ((t : List ℕ) (ts : List Offer) → Begin t (rowsIn (now (rows .entry)) count) ts onto start (admitted gate) → Outcome t (rowsIn (now (rows .exit)) (r .count)) (r .ok) (ts ++ letOver (admitted gate) (startOf (onto .edge) (start .code) (start .value)))) ⌝ }
+    requires { ⌜ (count ≤ limits .mostOffers) × (rowCells ≤ length (now rows)) ⌝ }
+    ensures { λ r. ⌜ ((count ≤ r .count) × (r .count ≤ limits .mostOffers)) × ((t : List ℕ) (ts : List Offer) → Begin t (rowsIn (now (rows .entry)) count) ts onto start (admitted gate) → Outcome t (rowsIn (now (rows .exit)) (r .count)) (r .ok) (ts ++ letOver (admitted gate) (begunOn (onto .edge) (start .code) (start .value)))) ⌝ }
 {
     let code = start.code;
     if code == 0 {
@@ -354,7 +380,7 @@ pub fn pass(
     gate: Gate,
 ) -> Grown
     requires { ⌜ Space (now rows) (now from) (now to) count × Feeds (now first) (now next) (onto .node) ⌝ }
-    ensures { λ r. ⌜ ((count ≤ r .count) × (r .count ≤ 64)) × ((t : List ℕ) (ts : List Offer) (on : ℕ → List Offer) → Pass t (rowsIn (now (rows .entry)) count) ts on (now (first .entry)) (now (next .entry)) (now (from .entry)) (now (to .entry)) onto (admitted gate) → Outcome t (rowsIn (now (rows .exit)) (r .count)) (r .ok) (ts ++ overs (onto .edge) (letOver (admitted gate) (gather on (into t (onto .node)))))) ⌝ }
+    ensures { λ r. ⌜ ((count ≤ r .count) × (r .count ≤ limits .mostOffers)) × ((t : List ℕ) (ts : List Offer) (on : ℕ → List Offer) → Pass t (rowsIn (now (rows .entry)) count) ts on (now (first .entry)) (now (next .entry)) (now (from .entry)) (now (to .entry)) onto (admitted gate) → Outcome t (rowsIn (now (rows .exit)) (r .count)) (r .ok) (ts ++ overs (onto .edge) (letOver (admitted gate) (gather on (into t (onto .node)))))) ⌝ }
 {
     let mut c = count;
     let mut j = wide(first[wide(onto.node)]);

@@ -5,13 +5,14 @@ use mathlib.Core.Bool.{true, false}
 use mathlib.Core.List.{List}
 use lib.ListN.{length, getD}
 use Rattle.paper.specs.Lists.{has}
+use Rattle.paper.specs.Limits.{limits}
 
 -- there is a word for each offer and for each edge, and no more of either than a word has digits
-pub record Room (rivals edges : List ℕ) (count to : ℕ) : Type 0 where
+pub record AheadRoom (rivals edges : List ℕ) (count to : ℕ) : Type 0 where
   pub rows : count ≤ length rivals
-  pub few-offers : count ≤ 64
+  pub few-offers : count ≤ limits .mostOffers
   pub words : to ≤ length edges
-  pub few-edges : to ≤ 64
+  pub few-edges : to ≤ limits .mostOffers
 
 -- an edge that has yet to be served
 pub record Open (from to served k : ℕ) : Type 0 where
@@ -20,7 +21,7 @@ pub record Open (from to served k : ℕ) : Type 0 where
   pub unserved : has served k ≡ false
 
 -- offer i is on edge k and not blocked
-pub record Fit (edges : List ℕ) (count blocked k i : ℕ) : Type 0 where
+pub record Serves (edges : List ℕ) (count blocked k i : ℕ) : Type 0 where
   pub small : i < count
   pub on-edge : has (getD edges k 0) i ≡ true
   pub free : has blocked i ≡ false
@@ -29,6 +30,6 @@ pub record Fit (edges : List ℕ) (count blocked k i : ℕ) : Type 0 where
 unfoldable pub Dead : List ℕ → List ℕ → ℕ → ℕ → ℕ → ℕ → ℕ → Type 0
 Dead rivals edges count from to served blocked =
     (y : ℕ → ℕ)
-    → ((k : ℕ) → Open from to served k → Fit edges count blocked k (y k))
+    → ((k : ℕ) → Open from to served k → Serves edges count blocked k (y k))
     → ((j k : ℕ) → Open from to served j → Open from to served k → (j ≡ k → ⊥) → has (getD rivals (y j) 0) (y k) ≡ false)
     → ⊥

@@ -7,11 +7,12 @@ ghost use mathlib.Core.Path.{_≡_};
 ghost use mathlib.Core.Bool.{true};
 ghost use Prim.Native.Nat.{_≤_, _<_};
 ghost use lib.ListN.{length};
-ghost use Rattle.offers_ahead.specs.Dead.{Dead, Room};
+ghost use Rattle.offers_ahead.specs.Dead.{Dead, AheadRoom};
+ghost use Rattle.paper.specs.Limits.{limits};
 
 // The open edge with the fewest free offers; `to` if none is open. A hint: `dead` tests it.
 fn fewest(edges: &[u64], from: usize, to: usize, served: u64, blocked: u64) -> usize
-    requires { ⌜ (to ≤ length (now edges)) × (to ≤ 64) ⌝ }
+    requires { ⌜ (to ≤ length (now edges)) × (to ≤ limits .mostOffers) ⌝ }
 {
     let mut best = to;
     let mut low: u32 = 65;
@@ -32,7 +33,7 @@ fn fewest(edges: &[u64], from: usize, to: usize, served: u64, blocked: u64) -> u
 
 // The offers on the open edges other than k.
 fn others(edges: &[u64], from: usize, to: usize, served: u64, k: usize) -> u64
-    requires { ⌜ (to ≤ length (now edges)) × (to ≤ 64) ⌝ }
+    requires { ⌜ (to ≤ length (now edges)) × (to ≤ limits .mostOffers) ⌝ }
 {
     let mut x: u64 = 0;
     let mut j = from;
@@ -49,7 +50,7 @@ fn others(edges: &[u64], from: usize, to: usize, served: u64, k: usize) -> u64
 
 // Whether a free offer of s has no free rival in x.
 fn spare(rivals: &[u64], count: usize, s: u64, x: u64, blocked: u64) -> bool
-    requires { ⌜ (count ≤ length (now rivals)) × (count ≤ 64) ⌝ }
+    requires { ⌜ (count ≤ length (now rivals)) × (count ≤ limits .mostOffers) ⌝ }
 {
     let mut i: usize = 0;
     while i < count {
@@ -75,7 +76,7 @@ fn idle(
     served: u64,
     blocked: u64,
 ) -> u64
-    requires { ⌜ Room (now rivals) (now edges) count to ⌝ }
+    requires { ⌜ AheadRoom (now rivals) (now edges) count to ⌝ }
 {
     let mut x: u64 = 0;
     let mut k = from;
@@ -103,7 +104,7 @@ pub fn dead(
     blocked: u64,
     depth: usize,
 ) -> bool
-    requires { ⌜ Room (now rivals) (now edges) count to ⌝ }
+    requires { ⌜ AheadRoom (now rivals) (now edges) count to ⌝ }
     ensures { λ r. ⌜ (r ≡ true → Dead (now (rivals .entry)) (now (edges .entry)) count from to served blocked) ⌝ }
 {
     if depth == 0 {

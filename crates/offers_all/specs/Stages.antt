@@ -1,10 +1,10 @@
 -- The offers of all edges, edge by edge in order of rank. Assumes nothing.
 use mathlib.Core.Path.{_≡_}
-use Prim.Native.Nat.{ℕ, suc, _≤_, _<_}
-use mathlib.Core.Bool.{Bool, true, false, _&&_, _||_}
+use Prim.Native.Nat.{ℕ, _≤_, _<_}
+use mathlib.Core.Bool.{Bool, true, false}
 use mathlib.Core.List.{List, [], _++_}
 use mathlib.Core.Option.{Option, none}
-use lib.Dec.{eqb, ltb}
+use mathlib.Core.Logic.{_⊎_}
 use lib.ListN.{length, getD}
 use Rattle.paper.specs.Lists.{all, keep, each, gather}
 use Rattle.paper.specs.Limits.{limits}
@@ -13,10 +13,10 @@ use Rattle.paper.specs.Marking.{Marking}
 use Rattle.paper.specs.Offers.{Offer, parts, value, firsts, ways, handed, offersOn, offers}
 use Rattle.paper.proofs.Members.{In, Distinct}
 use Rattle.table.specs.declared.Table.{Table}
-use Rattle.table.specs.Reading.{Spans}
-use Rattle.table.specs.Incoming.{ListFrom, Incoming}
+use Rattle.table.specs.Incoming.{ListFrom, Forward, Incoming}
+use Rattle.table_shape.specs.Chains.{Framed}
 use Rattle.terms.specs.Terms.{Ties}
-use Rattle.offers.specs.Rows.{Rows, Holds, Seg, Names, Feeds, admitted, startOf, fine}
+use Rattle.offers.specs.Rows.{Rows, Holds, Seg, Names, Feeds, admitted, begunOn, fine}
 use Rattle.offers.specs.declared.Gate.{Gate}
 use Rattle.offers.specs.declared.Onto.{Onto}
 use Rattle.offers.specs.declared.Start.{Start}
@@ -28,13 +28,6 @@ Gates = ℕ → Option ℕ → Bool
 -- the offers on each edge
 abbrev pub onEdge : List ℕ → Gates → Marking → ℕ → List Offer
 onEdge t goes m = offersOn t goes m (limits .longestPath)
-
--- ---- ranks of nodes
--- the longest chain of control nodes that ends at node i has `rk i` of them, or k or more where that is k
-pub record Upto (t rk : List ℕ) (k i : ℕ) : Type 0 where
-  pub small : getD rk i 0 ≤ k
-  pub reached : (j : ℕ) → j ≤ getD rk i 0 → chain t j i ≡ true
-  pub over : getD rk i 0 < k → chain t (suc (getD rk i 0)) i ≡ false
 
 -- the rank of an edge's source
 abbrev pub rankOf : List ℕ → List ℕ → ℕ → ℕ
@@ -58,25 +51,20 @@ pub record Edge (t : List ℕ) (m : Marking) (goes : Gates) (r : Rows) (ts : Lis
   pub segs : isControlNode (kind t (source t (o .edge))) ≡ true → (j : ℕ) → j < edges t → target t j ≡ source t (o .edge)
       → Seg ts (getD a j 0) (getD b j 0) (on j)
   pub distinct : Distinct (ts ++ on (o .edge))
-  pub starts : isControlNode (kind t (source t (o .edge))) ≡ false → firsts t m (o .edge) ≡ startOf (o .edge) (start .code) (start .value)
+  pub starts : isControlNode (kind t (source t (o .edge))) ≡ false → firsts t m (o .edge) ≡ begunOn (o .edge) (start .code) (start .value)
   pub one-value : OneValue t goes on (o .edge)
 
 -- ---- rounds
--- the edges that come before edge e in round r
-unfoldable pub done : List ℕ → List ℕ → ℕ → ℕ → ℕ → Bool
-done t rk r e j = ltb (rankOf t rk j) r || (eqb (rankOf t rk j) r && ltb j e)
-
--- what the builder needs of the table: a good table has it
-pub record Framed (t : List ℕ) (x : Table) : Type 0 where
-  pub spans : Spans t x
-  pub sources : (j : ℕ) → j < edges t → source t j < nodes t
-  pub targets : (j : ℕ) → j < edges t → target t j < nodes t
-
 -- the lists of the edges into each node can be gone through
-abbrev pub Fed : List ℕ → List ℕ → List ℕ → Type 0
-Fed t first next = (i : ℕ) → i < nodes t → Feeds first next i
+abbrev pub AllFed : List ℕ → List ℕ → List ℕ → Type 0
+AllFed t first next = (i : ℕ) → i < nodes t → Feeds first next i
 
--- a table that was read, and a guard, a first offer's code and value for each edge
+-- lists over the edges can be gone through
+pub record Walkable (next : List ℕ) : Type 0 where
+  pub forward : Forward next
+  pub nexts : limits .mostEdges ≤ length next
+
+-- what the builder needs of the table, and a guard, a first offer's code and value for each edge
 pub record Sized (t : List ℕ) (x : Table) (g st ol : List ℕ) : Type 0 where
   pub framed : Framed t x
   pub guards : edges t ≤ length g
@@ -88,30 +76,36 @@ pub record Input (t : List ℕ) (m : Marking) (goes : Gates) (g x st ol : List �
   pub ties : Ties t g x goes
   pub one-value : (e : ℕ) → e < edges t → OneValue t goes (onEdge t goes m) e
   pub flat : (j : ℕ) → j < edges t → chain t (limits .chainTooLong) (source t j) ≡ false
-  pub starts : (e : ℕ) → e < edges t → isControlNode (kind t (source t e)) ≡ false → firsts t m e ≡ startOf e (getD st e 0) (getD ol e 0)
+  pub starts : (e : ℕ) → e < edges t → isControlNode (kind t (source t e)) ≡ false → firsts t m e ≡ begunOn e (getD st e 0) (getD ol e 0)
 
--- ranks rise along edges into control nodes, and are below c
-pub record Rising (t rk : List ℕ) (c : ℕ) : Type 0 where
+-- ranks rise along edges into control nodes, and there is a round for each
+pub record Rising (t rk : List ℕ) : Type 0 where
   pub rises : (j : ℕ) → j < edges t → isControlNode (kind t (target t j)) ≡ true → rankOf t rk j < getD rk (target t j) 0
-  pub low : (j : ℕ) → j < edges t → rankOf t rk j < c
+  pub low : (j : ℕ) → j < edges t → rankOf t rk j < limits .chainTooLong
 
 -- what the rounds go by: ranks, and the lists of incoming edges
-pub record Plan (t : List ℕ) (m : Marking) (goes : Gates) (g x st ol rk first next : List ℕ) (top : ℕ) : Type 0 where
+pub record Plan (t : List ℕ) (m : Marking) (goes : Gates) (g x st ol rk first next : List ℕ) : Type 0 where
   pub input : Input t m goes g x st ol
-  pub rising : Rising t rk top
+  pub rising : Rising t rk
   pub incoming : Incoming t first next
 
--- the edges ds are done: those before edge e in round r
-pub record Stage (t : List ℕ) (on : ℕ → List Offer) (rk : List ℕ) (r e : ℕ) (rows : Rows) (a b : List ℕ) (ds : List ℕ) : Type 0 where
+-- edge j is done when the edges js of rank r are left
+abbrev pub Done : List ℕ → List ℕ → ℕ → List ℕ → ℕ → Type 0
+Done t rk r js j = (rankOf t rk j < r) ⊎ ((rankOf t rk j ≡ r) × (In j js → ⊥))
+
+-- the edges ds are done: those of a lower rank than r, and of rank r all but js
+pub record Stage (t : List ℕ) (on : ℕ → List Offer) (rk : List ℕ) (r : ℕ) (js : List ℕ) (rows : Rows) (a b : List ℕ) (ds : List ℕ) : Type 0 where
   pub holds-ts : Holds t rows (gather on ds)
   pub apart : Distinct ds
-  pub only : (j : ℕ) → In j ds → (j < edges t) × (done t rk r e j ≡ true)
-  pub every : (j : ℕ) → j < edges t → done t rk r e j ≡ true → In j ds
-  pub segs : (j : ℕ) → j < edges t → done t rk r e j ≡ true → Seg (gather on ds) (getD a j 0) (getD b j 0) (on j)
+  pub left : (j : ℕ) → In j js → (j < edges t) × (rankOf t rk j ≡ r)
+  pub left-once : Distinct js
+  pub only : (j : ℕ) → In j ds → (j < edges t) × Done t rk r js j
+  pub every : (j : ℕ) → j < edges t → Done t rk r js j → In j ds
+  pub segs : (j : ℕ) → In j ds → Seg (gather on ds) (getD a j 0) (getD b j 0) (on j)
 
--- after a round: the next stage, or too many offers
-pub record Next (t : List ℕ) (m : Marking) (goes : Gates) (rk : List ℕ) (r e : ℕ) (rows : Rows) (ok : Bool) (a b : List ℕ) : Type 0 where
-  pub good : ok ≡ true → (ds : List ℕ) × Stage t (onEdge t goes m) rk r e rows a b ds
+-- after round r: all edges of rank r are done, or there are too many offers
+pub record AfterRound (t : List ℕ) (m : Marking) (goes : Gates) (rk : List ℕ) (r : ℕ) (rows : Rows) (ok : Bool) (a b : List ℕ) : Type 0 where
+  pub good : ok ≡ true → (ds : List ℕ) × Stage t (onEdge t goes m) rk r [] rows a b ds
   pub bad : ok ≡ false → fine (offers t goes m) ≡ false
 
 -- the whole list: some order of the edges, every edge's offers from a to b of the list in that order

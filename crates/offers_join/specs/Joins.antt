@@ -9,11 +9,12 @@ use lib.ListN.{length, getD}
 use Rattle.paper.specs.Lists.{all, any, each, gather, has}
 use Rattle.paper.specs.Table.{edges, target, into}
 use Rattle.paper.specs.Offers.{Offer, first, over, with, parts, makers, paths, value, orElse, compete, ways}
+use Rattle.paper.specs.Limits.{limits}
 use Rattle.paper.proofs.Members.{In, Distinct}
 use Rattle.table.specs.Incoming.{ListFrom}
-use Rattle.offers_ahead.specs.Dead.{Room}
+use Rattle.offers_ahead.specs.Dead.{AheadRoom}
 use Rattle.offers.specs.Sets.{nth, Means, Foes}
-use Rattle.offers.specs.Rows.{Rows, Holds, Leads, valueOf, letOver, overs, Seg, Leaves}
+use Rattle.offers.specs.Rows.{rowCells, Rows, Holds, Leads, valueOf, letOver, overs, Seg, LeavesControl}
 use Rattle.offers.specs.declared.Onto.{Onto}
 use Rattle.offers_join.specs.declared.Way.{Way}
 
@@ -30,9 +31,9 @@ clear t goes [] w = all (λ p. goes (value p)) (parts w)
 clear t goes (p ∷ ps) w = not (any (compete t p) (parts w)) && clear t goes ps w
 
 -- what the search finds once the offers of pre are taken, where oss are the offers on the edges that are left; e is the outgoing edge
-unfoldable pub found : List ℕ → (Option ℕ → Bool) → ℕ → List Offer → List (List Offer) → List Offer
-found t goes e pre [] = over (together pre) e ∷ []
-found t goes e pre (os ∷ oss) = gather (λ x. cond (clear t goes pre x) (found t goes e (pre ++ (x ∷ [])) oss) []) os
+unfoldable pub foundWays : List ℕ → (Option ℕ → Bool) → ℕ → List Offer → List (List Offer) → List Offer
+foundWays t goes e pre [] = over (together pre) e ∷ []
+foundWays t goes e pre (os ∷ oss) = gather (λ x. cond (clear t goes pre x) (foundWays t goes e (pre ++ (x ∷ [])) oss) []) os
 
 -- ---- what the offers taken come to
 abbrev pub valueAll : List Offer → Option ℕ
@@ -79,12 +80,12 @@ abbrev pub Span : ℕ → ℕ → ℕ → Type 0
 Span a b w = (i : ℕ) → a ≤ i → i < b → has w i ≡ true
 
 -- row k of seg has the numbers from a to b of edge k, and so has the word `wanted`
-abbrev pub Spans : List ℕ → List ℕ → ℕ → List ℕ → ℕ → Type 0
-Spans a b d seg wanted = (k : ℕ) → k < d → Span (getD a k 0) (getD b k 0) (getD seg k 0) × Span (getD a k 0) (getD b k 0) wanted
+abbrev pub SegmentWords : List ℕ → List ℕ → ℕ → List ℕ → ℕ → Type 0
+SegmentWords a b d seg wanted = (k : ℕ) → k < d → Span (getD a k 0) (getD b k 0) (getD seg k 0) × Span (getD a k 0) (getD b k 0) wanted
 
 -- of the first n offers, w has those that don't go over the outgoing edge
-abbrev pub Bars : (Option ℕ → Bool) → List Offer → ℕ → ℕ → Type 0
-Bars goes ts n w = (j : ℕ) → j < n → has w j ≡ not (goes (value (nth ts j)))
+abbrev pub BarredRows : (Option ℕ → Bool) → List Offer → ℕ → ℕ → Type 0
+BarredRows goes ts n w = (j : ℕ) → j < n → has w j ≡ not (goes (value (nth ts j)))
 
 -- of the first n offers, w has those that are not clear of pre
 abbrev pub Blocks : List ℕ → (Option ℕ → Bool) → List Offer → ℕ → List Offer → ℕ → Type 0
@@ -94,13 +95,13 @@ Blocks t goes ts n pre w = (j : ℕ) → j < n → has w j ≡ not (clear t goes
 pub record Safe (m a b bad seg chosen : List ℕ) (n c d q : ℕ) : Type 0 where
   pub parts : Within a b d n
   pub held : n ≤ c
-  pub few : c ≤ 64
-  pub cells : 1024 ≤ length m
+  pub few : c ≤ limits .mostOffers
+  pub cells : rowCells ≤ length m
   pub lows : d ≤ length a
   pub highs : d ≤ length b
   pub choices : d ≤ length chosen
   pub level : q ≤ d
-  pub room : Room bad seg n d
+  pub room : AheadRoom bad seg n d
   pub made : (k : ℕ) → k < q → getD chosen k 0 < n
 
 -- the search from here on: pre is taken on the edges before q, and oss are the offers on the edges q to d
@@ -110,16 +111,16 @@ pub record Dfs (t : List ℕ) (goes : Option ℕ → Bool) (r : Rows) (ts pre : 
   pub some-edge : 0 < d
   pub old : n ≤ length ts
   pub levels : Levels ts a b q d oss
-  pub distinct : Distinct (ts ++ found t goes (o .edge) pre oss)
+  pub distinct : Distinct (ts ++ foundWays t goes (o .edge) pre oss)
   pub picked : Picked ts chosen q pre
   pub blocks : Blocks t goes ts n pre blocked
   pub rivals : Rivals t ts n wanted bad
-  pub spans : Spans a b d seg wanted
-  pub leaves : Leaves t o
+  pub spans : SegmentWords a b d seg wanted
+  pub leaves : LeavesControl t o
 
 -- ---- the incoming edges
 -- lo and hi have the segments of the edges js, as a and b have them by edge
-pub record Listed (a b js lo hi : List ℕ) (d : ℕ) : Type 0 where
+pub record SegmentsOf (a b js lo hi : List ℕ) (d : ℕ) : Type 0 where
   pub number : d ≡ length js
   pub lows : (i : ℕ) → i < length js → getD lo i 0 ≡ getD a (getD js i 0) 0
   pub highs : (i : ℕ) → i < length js → getD hi i 0 ≡ getD b (getD js i 0) 0
@@ -137,6 +138,6 @@ pub record Meeting (t : List ℕ) (goes : Option ℕ → Bool) (r : Rows) (ts : 
   pub list : ListFrom next (getD first (o .node) 0) (into t (o .node))
   pub segs : (j : ℕ) → j < edges t → target t j ≡ o .node → Seg ts (getD a j 0) (getD b j 0) (on j)
   pub distinct : Distinct (ts ++ overs (o .edge) (letOver goes (ways t (each on (into t (o .node))))))
-  pub leaves : Leaves t o
+  pub leaves : LeavesControl t o
   -- of the offers taken together at most one has a value, so a way goes over the edge exactly if each of its offers does
   pub one-value : (w : Offer) → In w (ways t (each on (into t (o .node)))) → goes (value w) ≡ all (λ p. goes (value p)) (parts w)

@@ -31,14 +31,15 @@ ghost use Rattle.paper.specs.Table.{into};
 ghost use Rattle.paper.specs.Offers.{Offer, over, ways};
 ghost use Rattle.paper.proofs.Members.{In};
 ghost use Rattle.table.specs.Incoming.{ListFrom};
-ghost use Rattle.offers_ahead.specs.Dead.{Dead, Room};
+ghost use Rattle.offers_ahead.specs.Dead.{Dead, AheadRoom};
 ghost use Rattle.offers.specs.Sets.{nth};
-ghost use Rattle.offers.specs.Rows.{rowsIn, admitted, letOver, Holds, Leaves, Outcome, overs, Space, Feeds};
-ghost use Rattle.offers_join.specs.Joins.{together, found, Taken, Picked, RivalRow, Rivals, Span, Spans, Bars, Within, Safe, Dfs, Listed, Bare, Meeting};
+ghost use Rattle.offers.specs.Rows.{rowCells, rowsIn, admitted, letOver, Holds, LeavesControl, Outcome, overs, Space, Feeds};
+ghost use Rattle.offers_join.specs.Joins.{together, foundWays, Taken, Picked, RivalRow, Rivals, Span, SegmentWords, BarredRows, Within, Safe, Dfs, SegmentsOf, Bare, Meeting};
+ghost use Rattle.paper.specs.Limits.{limits};
 
 // The offers that compete with offer i.
 fn rivals_of(rows: &[u64], count: usize, i: usize) -> u64
-    requires { ⌜ (i < count) × ((count ≤ 64) × (1024 ≤ length (now rows))) ⌝ }
+    requires { ⌜ (i < count) × ((count ≤ limits .mostOffers) × (rowCells ≤ length (now rows))) ⌝ }
     ensures { λ r. ⌜ ((t : List ℕ) (ts : List Offer) → Holds t (rowsIn (now (rows .entry)) count) ts → RivalRow t ts count i r) ⌝ }
 {
     let m = rows[WIDTH * i + MAKERS];
@@ -56,7 +57,7 @@ fn rivals_of(rows: &[u64], count: usize, i: usize) -> u64
 
 // A row of rivals for each offer in `wanted`.
 fn rival_rows(rows: &[u64], count: usize, wanted: u64, rivals: &mut [u64])
-    requires { ⌜ ((count ≤ 64) × (1024 ≤ length (now rows))) × (64 ≤ length (now rivals)) ⌝ }
+    requires { ⌜ ((count ≤ limits .mostOffers) × (rowCells ≤ length (now rows))) × (limits .mostOffers ≤ length (now rivals)) ⌝ }
     ensures { λ _. ⌜ ((t : List ℕ) (ts : List Offer) → Holds t (rowsIn (now (rows .entry)) count) ts → Rivals t ts count wanted (now (rivals .exit))) ⌝ }
 {
     let mut i: usize = 0;
@@ -70,7 +71,7 @@ fn rival_rows(rows: &[u64], count: usize, wanted: u64, rivals: &mut [u64])
 
 // The numbers from a to b.
 fn span(a: usize, b: usize) -> u64
-    requires { ⌜ b ≤ 64 ⌝ }
+    requires { ⌜ b ≤ limits .mostOffers ⌝ }
     ensures { λ r. ⌜ Span a b r ⌝ }
 {
     let mut d: u64 = 0;
@@ -84,8 +85,8 @@ fn span(a: usize, b: usize) -> u64
 
 // The offers on each of d edges, as words; the answer has all of them.
 fn spans(lo: &[u8], hi: &[u8], d: usize, edges: &mut [u64]) -> u64
-    requires { ⌜ ((d ≤ length (now lo)) × (d ≤ length (now hi))) × ((d ≤ length (now edges)) × Within (now lo) (now hi) d 64) ⌝ }
-    ensures { λ r. ⌜ Spans (now (lo .entry)) (now (hi .entry)) d (now (edges .exit)) r ⌝ }
+    requires { ⌜ ((d ≤ length (now lo)) × (d ≤ length (now hi))) × ((d ≤ length (now edges)) × Within (now lo) (now hi) d (limits .mostOffers)) ⌝ }
+    ensures { λ r. ⌜ SegmentWords (now (lo .entry)) (now (hi .entry)) d (now (edges .exit)) r ⌝ }
 {
     let mut wanted: u64 = 0;
     let mut k: usize = 0;
@@ -100,8 +101,8 @@ fn spans(lo: &[u8], hi: &[u8], d: usize, edges: &mut [u64]) -> u64
 
 // The offers that a gate doesn't let over its edge.
 fn barred(rows: &[u64], count: usize, gate: Gate) -> u64
-    requires { ⌜ (count ≤ 64) × (1024 ≤ length (now rows)) ⌝ }
-    ensures { λ r. ⌜ ((t : List ℕ) (ts : List Offer) → Holds t (rowsIn (now (rows .entry)) count) ts → Bars (admitted gate) ts count r) ⌝ }
+    requires { ⌜ (count ≤ limits .mostOffers) × (rowCells ≤ length (now rows)) ⌝ }
+    ensures { λ r. ⌜ ((t : List ℕ) (ts : List Offer) → Holds t (rowsIn (now (rows .entry)) count) ts → BarredRows (admitted gate) ts count r) ⌝ }
 {
     let mut d: u64 = 0;
     let mut j: usize = 0;
@@ -115,7 +116,7 @@ fn barred(rows: &[u64], count: usize, gate: Gate) -> u64
 }
 
 // What the offers taken at a join come to.
-pub struct Way {
+struct Way {
     pub parents: u64,
     pub makers: u64,
     pub foes: u64,
@@ -126,7 +127,7 @@ pub struct Way {
 
 // Offer i taken too: the row to come goes on from its paths.
 fn add(rows: &mut [u64], count: usize, w: Way, i: usize) -> Way
-    requires { ⌜ ((i < 64) × (count < 64)) × ((1024 ≤ length (now rows)) × (w .paths ≤ 512)) ⌝ }
+    requires { ⌜ ((i < limits .mostOffers) × (count < limits .mostOffers)) × ((rowCells ≤ length (now rows)) × (w .paths ≤ 512)) ⌝ }
     ensures { λ r. ⌜ (r .paths ≤ w .paths + 8) × ((t : List ℕ) (ts ps : List Offer) → Holds t (rowsIn (now (rows .entry)) count) ts → i < length ts → Taken t (rowsIn (now (rows .entry)) count) ts ps w → Holds t (rowsIn (now (rows .exit)) count) ts × Taken t (rowsIn (now (rows .exit)) count) ts (ps ++ (nth ts i ∷ [])) r) ⌝ }
 {
     let p = paths_of(rows, i);
@@ -158,7 +159,7 @@ fn add(rows: &mut [u64], count: usize, w: Way, i: usize) -> Way
 
 // The d offers chosen, taken together.
 fn taken(rows: &mut [u64], count: usize, chosen: &[u8], d: usize) -> Way
-    requires { ⌜ ((count < 64) × (1024 ≤ length (now rows))) × (((d ≤ 64) × (d ≤ length (now chosen))) × ((k : ℕ) → k < d → getD (now chosen) k 0 < 64)) ⌝ }
+    requires { ⌜ ((count < limits .mostOffers) × (rowCells ≤ length (now rows))) × (((d ≤ limits .mostOffers) × (d ≤ length (now chosen))) × ((k : ℕ) → k < d → getD (now chosen) k 0 < limits .mostOffers)) ⌝ }
     ensures { λ r. ⌜ (r .paths ≤ 512) × ((t : List ℕ) (ts ps : List Offer) → Holds t (rowsIn (now (rows .entry)) count) ts → Picked ts (now (chosen .entry)) d ps → Holds t (rowsIn (now (rows .exit)) count) ts × Taken t (rowsIn (now (rows .exit)) count) ts ps r) ⌝ }
 {
     let mut w = Way {
@@ -179,8 +180,8 @@ fn taken(rows: &mut [u64], count: usize, chosen: &[u8], d: usize) -> Way
 
 // The d offers chosen, joined.
 fn leaf(rows: &mut [u64], count: usize, chosen: &[u8], d: usize, onto: Onto) -> Grown
-    requires { ⌜ ((count ≤ 64) × (1024 ≤ length (now rows))) × (((d ≤ 64) × (d ≤ length (now chosen))) × ((k : ℕ) → k < d → getD (now chosen) k 0 < 64)) ⌝ }
-    ensures { λ r. ⌜ ((count ≤ r .count) × (r .count ≤ 64)) × ((t : List ℕ) (ts ps : List Offer) → Holds t (rowsIn (now (rows .entry)) count) ts → Picked ts (now (chosen .entry)) d ps → 0 < length ps → (In (over (together ps) (onto .edge)) ts → ⊥) → Leaves t onto → Outcome t (rowsIn (now (rows .exit)) (r .count)) (r .ok) (ts ++ (over (together ps) (onto .edge) ∷ []))) ⌝ }
+    requires { ⌜ ((count ≤ limits .mostOffers) × (rowCells ≤ length (now rows))) × (((d ≤ limits .mostOffers) × (d ≤ length (now chosen))) × ((k : ℕ) → k < d → getD (now chosen) k 0 < limits .mostOffers)) ⌝ }
+    ensures { λ r. ⌜ ((count ≤ r .count) × (r .count ≤ limits .mostOffers)) × ((t : List ℕ) (ts ps : List Offer) → Holds t (rowsIn (now (rows .entry)) count) ts → Picked ts (now (chosen .entry)) d ps → 0 < length ps → (In (over (together ps) (onto .edge)) ts → ⊥) → LeavesControl t onto → Outcome t (rowsIn (now (rows .exit)) (r .count)) (r .ok) (ts ++ (over (together ps) (onto .edge) ∷ []))) ⌝ }
 {
     if MOST_OFFERS <= count {
         return Grown {
@@ -218,7 +219,7 @@ fn leaf(rows: &mut [u64], count: usize, chosen: &[u8], d: usize, onto: Onto) -> 
 
 // Whether it is sure that no way goes on. With one or two edges left the search itself is as quick.
 fn lost(rivals: &[u64], edges: &[u64], n: usize, q: usize, d: usize, blocked: u64) -> bool
-    requires { ⌜ Room (now rivals) (now edges) n d ⌝ }
+    requires { ⌜ AheadRoom (now rivals) (now edges) n d ⌝ }
     ensures { λ r. ⌜ (r ≡ true → Dead (now (rivals .entry)) (now (edges .entry)) n q d 0 blocked) ⌝ }
 {
     if d <= q {
@@ -248,7 +249,7 @@ fn join(
     onto: Onto,
 ) -> Grown
     requires { ⌜ Safe (now rows) (now lo) (now hi) (now rivals) (now edges) (now chosen) n count d q ⌝ }
-    ensures { λ r. ⌜ ((count ≤ r .count) × (r .count ≤ 64)) × (((k : ℕ) → k < q → getD (now (chosen .exit)) k 0 ≡ getD (now (chosen .entry)) k 0) × ((t : List ℕ) (goes : Option ℕ → Bool) (ts pre : List Offer) (oss : List (List Offer)) (wanted : ℕ) → Dfs t goes (rowsIn (now (rows .entry)) count) ts pre oss (now (lo .entry)) (now (hi .entry)) (now (rivals .entry)) (now (edges .entry)) (now (chosen .entry)) n d q blocked wanted onto → Outcome t (rowsIn (now (rows .exit)) (r .count)) (r .ok) (ts ++ found t goes (onto .edge) pre oss))) ⌝ }
+    ensures { λ r. ⌜ ((count ≤ r .count) × (r .count ≤ limits .mostOffers)) × (((k : ℕ) → k < q → getD (now (chosen .exit)) k 0 ≡ getD (now (chosen .entry)) k 0) × ((t : List ℕ) (goes : Option ℕ → Bool) (ts pre : List Offer) (oss : List (List Offer)) (wanted : ℕ) → Dfs t goes (rowsIn (now (rows .entry)) count) ts pre oss (now (lo .entry)) (now (hi .entry)) (now (rivals .entry)) (now (edges .entry)) (now (chosen .entry)) n d q blocked wanted onto → Outcome t (rowsIn (now (rows .exit)) (r .count)) (r .ok) (ts ++ foundWays t goes (onto .edge) pre oss))) ⌝ }
 {
     if q == d {
         return leaf(rows, count, chosen, d, onto);
@@ -299,8 +300,8 @@ fn incoming(
     lo: &mut [u8],
     hi: &mut [u8],
 ) -> usize
-    requires { ⌜ Feeds (now first) (now next) s × (((64 ≤ length (now from)) × (64 ≤ length (now to))) × ((64 ≤ length (now lo)) × (64 ≤ length (now hi)))) ⌝ }
-    ensures { λ r. ⌜ (r ≤ 64) × ((js : List ℕ) → ListFrom (now (next .entry)) (getD (now (first .entry)) s 0) js → Listed (now (from .entry)) (now (to .entry)) js (now (lo .exit)) (now (hi .exit)) r) ⌝ }
+    requires { ⌜ Feeds (now first) (now next) s × (((limits .mostEdges ≤ length (now from)) × (limits .mostEdges ≤ length (now to))) × ((limits .mostEdges ≤ length (now lo)) × (limits .mostEdges ≤ length (now hi)))) ⌝ }
+    ensures { λ r. ⌜ (r ≤ limits .mostEdges) × ((js : List ℕ) → ListFrom (now (next .entry)) (getD (now (first .entry)) s 0) js → SegmentsOf (now (from .entry)) (now (to .entry)) js (now (lo .exit)) (now (hi .exit)) r) ⌝ }
 {
     let mut d: usize = 0;
     let mut j = wide(first[wide(s)]);
@@ -340,10 +341,10 @@ pub fn meet(
     gate: Gate,
 ) -> Grown
     requires { ⌜ Space (now rows) (now from) (now to) count × Feeds (now first) (now next) (onto .node) ⌝ }
-    ensures { λ r. ⌜ ((count ≤ r .count) × (r .count ≤ 64)) × ((t : List ℕ) (ts : List Offer) (on : ℕ → List Offer) → Meeting t (admitted gate) (rowsIn (now (rows .entry)) count) ts on (now (first .entry)) (now (next .entry)) (now (from .entry)) (now (to .entry)) onto → Outcome t (rowsIn (now (rows .exit)) (r .count)) (r .ok) (ts ++ overs (onto .edge) (letOver (admitted gate) (ways t (each on (into t (onto .node))))))) ⌝ }
+    ensures { λ r. ⌜ ((count ≤ r .count) × (r .count ≤ limits .mostOffers)) × ((t : List ℕ) (ts : List Offer) (on : ℕ → List Offer) → Meeting t (admitted gate) (rowsIn (now (rows .entry)) count) ts on (now (first .entry)) (now (next .entry)) (now (from .entry)) (now (to .entry)) onto → Outcome t (rowsIn (now (rows .exit)) (r .count)) (r .ok) (ts ++ overs (onto .edge) (letOver (admitted gate) (ways t (each on (into t (onto .node))))))) ⌝ }
 {
-    let mut lo = [0u8; 64];
-    let mut hi = [0u8; 64];
+    let mut lo = [0u8; Table::MOST_EDGES];
+    let mut hi = [0u8; Table::MOST_EDGES];
     let d = incoming(first, next, from, to, onto.node, &mut lo, &mut hi);
     if d == 0 {
         return Grown {
@@ -357,9 +358,9 @@ pub fn meet(
             ok: true,
         };
     }
-    let mut edges = [0u64; 64];
-    let mut rivals = [0u64; 64];
-    let mut chosen = [0u8; 64];
+    let mut edges = [0u64; Table::MOST_EDGES];
+    let mut rivals = [0u64; MOST_OFFERS];
+    let mut chosen = [0u8; Table::MOST_EDGES];
     let wanted = spans(&lo, &hi, d, &mut edges);
     rival_rows(rows, count, wanted, &mut rivals);
     let blocked = barred(rows, count, gate);

@@ -13,13 +13,14 @@ ghost use Rattle.offers.specs.Struct.{Full};
 ghost use Rattle.ends_masks.specs.Seating.{EndsFull, Stands};
 ghost use Rattle.marking_held.specs.MarkingHeld.{HeldLengths};
 ghost use Rattle.pick_bounds.specs.Net.{held as heldOf};
-ghost use Rattle.pick_rules.specs.Rules.{holds};
+ghost use Rattle.pick_rules.specs.Rules.{mostRules, netCells, holds};
 ghost use Rattle.pick.specs.Picking.{Answered};
+ghost use Rattle.paper.specs.Limits.{limits};
 use ends_masks::Ends;
 use marking_held::Held;
 use offers::Offers;
 use pick_bounds::Wanted;
-use pick_search::Found;
+use pick_search::ChoiceFound;
 use table::Table;
 
 // What the search is asked: a net of so many rules, and the ends that are wanted.
@@ -38,8 +39,8 @@ fn prepare(
     node: u8,
     net: &mut [u32],
 ) -> Question
-    requires { ⌜ (tableRead (now t) ≡ good table) × Full offers × EndsFull ends × HeldLengths held × (440 ≤ length (now net)) ⌝ }
-    ensures { λ r. ⌜ (r .rules ≤ 105) × ((d : Board) → Stands (now (t .entry)) d offers ends (held .runs) (held .kept) → (c : ℕ) → holds (now (net .exit)) (r .rules) (ends .count) c && leb (r .want .least) (heldOf (ends .count) c (r .want .ends)) ≡ wanted d node c) ⌝ }
+    requires { ⌜ (tableRead (now t) ≡ good table) × Full offers × EndsFull ends × HeldLengths held × (netCells ≤ length (now net)) ⌝ }
+    ensures { λ r. ⌜ (r .rules ≤ mostRules) × ((d : Board) → Stands (now (t .entry)) d offers ends (held .runs) (held .kept) → (c : ℕ) → holds (now (net .exit)) (r .rules) (ends .count) c && leb (r .want .least) (heldOf (ends .count) c (r .want .ends)) ≡ wanted d node c) ⌝ }
 {
     let target = ends.target;
     let home = ends.home;
@@ -51,15 +52,22 @@ fn prepare(
 }
 
 // The first set of n ends that obeys the rules of a net and holds what is wanted.
-pub fn first(net: &[u32], asked: Question, n: usize) -> Found
-    requires { ⌜ (n ≤ 20) × (asked .rules ≤ 105) × (440 ≤ length (now net)) ⌝ }
+pub fn first(net: &[u32], asked: Question, n: usize) -> ChoiceFound
+    requires { ⌜ (n ≤ limits .mostEnds) × (asked .rules ≤ mostRules) × (netCells ≤ length (now net)) ⌝ }
     ensures { λ r. ⌜ Answered (λ c. holds (now (net .entry)) (asked .rules) n c && leb (asked .want .least) (heldOf n c (asked .want .ends))) n r ⌝ }
 {
     pick_search::first(&net[0..pick_bounds::ENDS + 4 * asked.rules], asked.want, n)
 }
 
 // The first acceptable choice that has an end of the node, if one is named.
-pub fn choose(t: &[u8], table: Table, offers: Offers, ends: Ends, held: Held, node: u8) -> Found
+pub fn choose(
+    t: &[u8],
+    table: Table,
+    offers: Offers,
+    ends: Ends,
+    held: Held,
+    node: u8,
+) -> ChoiceFound
     requires { ⌜ (tableRead (now t) ≡ good table) × Full offers × EndsFull ends × HeldLengths held ⌝ }
     ensures { λ r. ⌜ ((d : Board) → Stands (now (t .entry)) d offers ends (held .runs) (held .kept) → Answered (wanted d node) (howMany d) r) ⌝ }
 {
@@ -70,7 +78,7 @@ pub fn choose(t: &[u8], table: Table, offers: Offers, ends: Ends, held: Held, no
 
 // How many states the search in a net visits: what a test can hold down.
 pub fn effort(net: &[u32], asked: Question, n: usize) -> usize
-    requires { ⌜ (n ≤ 20) × (asked .rules ≤ 105) × (440 ≤ length (now net)) ⌝ }
+    requires { ⌜ (n ≤ limits .mostEnds) × (asked .rules ≤ mostRules) × (netCells ≤ length (now net)) ⌝ }
     ensures { λ r. ⌜ (1 ≤ r) × (r < 2 ^ (n + 22)) ⌝ }
 {
     pick_search::states(&net[0..pick_bounds::ENDS + 4 * asked.rules], asked.want, n)
@@ -87,13 +95,13 @@ pub fn states(t: &[u8], table: Table, offers: Offers, ends: Ends, held: Held, no
 }
 
 // What pick answers of n ends, where `found` is what was looked for: row 13, or a choice.
-fn conclude(found: Found, n: usize, node: u8, out: &mut [u8]) -> u64
-    requires { ⌜ n ≤ 20 ⌝ }
+fn conclude(found: ChoiceFound, n: usize, node: u8, out: &mut [u8]) -> u64
+    requires { ⌜ n ≤ limits .mostEnds ⌝ }
     ensures { λ r. ⌜ ((d : Board) → n ≡ howMany d → Answered (wanted d node) (howMany d) found → acceptable d 0 ≡ true → Leaves (PickOn d node) r (now (out .entry)) (now (out .exit))) ⌝ }
 {
     match found {
-        Found::Nothing => wire::pack(13, node, 0),
-        Found::Choice(c) => choice::tell(c, n, out),
+        ChoiceFound::Nothing => wire::pack(13, node, 0),
+        ChoiceFound::Choice(c) => choice::tell(c, n, out),
     }
 }
 

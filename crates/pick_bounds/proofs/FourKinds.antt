@@ -8,7 +8,7 @@ use lib.Dec.{leb}
 use borrow.Author.Tests.{leb-true, leb-false, le-leb, lt-leb}
 use Rattle.paper.specs.Lists.{has, _⇒_}
 use Rattle.paper.proofs.Bools.{true-or-false}
-use Rattle.pick_bounds.specs.Net.{held, meets, obeys, clash, need, floor, cap}
+use Rattle.pick_bounds.specs.Net.{held, meets, obeys, clashRule, needRule, floor, cap}
 use Rattle.pick_bounds.proofs.Sets.{meets-held, meets-one, held-most}
 
 if-same : (a b c : Bool) → b ≡ c → a ⇒ b ≡ a ⇒ c
@@ -28,7 +28,7 @@ module _ (m c : ℕ) where
       right false = refl
 
   -- with one of whens, one of these
-  pub need-obeyed : (whens these : ℕ) → m ≤ 32 → obeys m (need whens these) c ≡ meets m c whens ⇒ meets m c these
+  pub need-obeyed : (whens these : ℕ) → m ≤ 32 → obeys m (needRule whens these) c ≡ meets m c whens ⇒ meets m c these
   need-obeyed whens these l = floor-obeyed whens these 1 l ∙ ap (λ b. meets m c whens ⇒ b) (sym (meets-held m c these))
 
   -- at most hi of them
@@ -40,7 +40,7 @@ module _ (m c : ℕ) where
       (true-or-false (meets m c them))
 
   -- end i never with one of its rivals
-  pub clash-obeyed : (i rivals : ℕ) → i < m → obeys m (clash i rivals) c ≡ not (has c i && meets m c rivals)
+  pub clash-obeyed : (i rivals : ℕ) → i < m → obeys m (clashRule i rivals) c ≡ not (has c i && meets m c rivals)
   unfolding obeys
   clash-obeyed i rivals l =
       rw (meets-one m c i l, meets-held m c rivals, le-leb 0 (held m c rivals) (omega arith)) (by (has c i) (held m c rivals))

@@ -6,6 +6,7 @@ use mathlib.Core.Bool.{Bool, true, false, not, _&&_}
 use mathlib.Core.List.{List}
 use lib.Dec.{leb}
 use Rattle.paper.specs.Lists.{at, has, below, all}
+use Rattle.paper.specs.Limits.{limits}
 use Rattle.pick_bounds.specs.declared.Wanted.{Wanted}
 use Rattle.pick_bounds.specs.declared.Rule.{Rule}
 use Rattle.pick_bounds.specs.declared.Bounds.{Bounds}
@@ -17,7 +18,7 @@ good net want = passes 32 (netOf net want)
 
 -- a word has no two ends that are rivals; it has what is wanted; it has that and obeys a rule
 unfoldable pub apart : List ℕ → ℕ → Bool
-apart net x = all (λ k. obeys 32 (rivalsAt net k) x) (below 20)
+apart net x = all (λ k. obeys 32 (rivalsAt net k) x) (below (limits .mostEnds))
 
 abbrev pub enough : Wanted → ℕ → Bool
 enough want x = leb (want .least) (held 32 x (want .ends))

@@ -6,6 +6,7 @@ use mathlib.Core.List.{List, _++_}
 use lib.Dec.{leb}
 use lib.ListN.{length}
 use Rattle.paper.specs.Lists.{has, below, all, any, count, each, at, within, _⇒_}
+use Rattle.paper.specs.Limits.{limits}
 use Rattle.pick_bounds.specs.declared.Wanted.{Wanted}
 use Rattle.pick_bounds.specs.declared.Rule.{Rule}
 
@@ -38,11 +39,11 @@ unfoldable pub passes : ℕ → Net → ℕ → Bool
 passes m net c = leb (net .least) (held m c (net .wanted)) && all (λ r. obeys m r c) (net .rules)
 
 -- ---- rules of four kinds: i never with one of its rivals; with one of whens, one of these; with one of whens, at least lo of those; at most hi of them
-abbrev pub clash : ℕ → ℕ → Rule
-clash i rivals = rule (2 ^ i) rivals 0 0
+abbrev pub clashRule : ℕ → ℕ → Rule
+clashRule i rivals = rule (2 ^ i) rivals 0 0
 
-abbrev pub need : ℕ → ℕ → Rule
-need whens these = rule whens these 1 32
+abbrev pub needRule : ℕ → ℕ → Rule
+needRule whens these = rule whens these 1 32
 
 abbrev pub floor : ℕ → ℕ → ℕ → Rule
 floor whens those lo = rule whens those lo 32
@@ -52,17 +53,17 @@ cap them hi = rule them them 0 hi
 
 -- ---- a net as the code is lent it: the rivals of each of 20 ends, then each rule in four cells side by side
 abbrev pub size : List ℕ → ℕ
-size net = (length net - 20) / 4
+size net = (length net - limits .mostEnds) / 4
 
 abbrev pub rivalsAt : List ℕ → ℕ → Rule
-rivalsAt net k = clash k (at net k)
+rivalsAt net k = clashRule k (at net k)
 
 abbrev pub ruleAt : List ℕ → ℕ → Rule
-ruleAt net i = rule (at net (20 + 4 * i)) (at net (20 + 4 * i + 1)) (at net (20 + 4 * i + 2)) (at net (20 + 4 * i + 3))
+ruleAt net i = rule (at net (limits .mostEnds + 4 * i)) (at net (limits .mostEnds + 4 * i + 1)) (at net (limits .mostEnds + 4 * i + 2)) (at net (limits .mostEnds + 4 * i + 3))
 
 unfoldable pub netOf : List ℕ → Wanted → Net
 netOf net want = record {
-  rules = each (rivalsAt net) (below 20) ++ each (ruleAt net) (below (size net));
+  rules = each (rivalsAt net) (below (limits .mostEnds)) ++ each (ruleAt net) (below (size net));
   wanted = want .ends;
   least = want .least;
 }

@@ -8,6 +8,7 @@ ghost use lib.ListN.{length};
 ghost use Rattle.paper.specs.Lists.{at, has, within};
 ghost use Rattle.pick_bounds.specs.Net.{held, meets, obeys, size, ruleAt};
 ghost use Rattle.pick_bounds.specs.Bounds.{good, apart, enough, heeds, Without, Between, Keeps, NoneIn, SetOff};
+ghost use Rattle.paper.specs.Limits.{limits};
 
 // At least so many of these ends are wanted; `least` is 0 where none is named.
 pub struct Wanted {
@@ -130,7 +131,7 @@ pub fn add(end: u32, b: Bounds) -> Bounds
 
 // How many rules a net has.
 pub fn size(net: &[u32]) -> usize
-    requires { ⌜ 20 ≤ length (now net) ⌝ }
+    requires { ⌜ (limits .mostEnds) ≤ length (now net) ⌝ }
     ensures { λ r. ⌜ r ≡ size (now (net .entry)) ⌝ }
 {
     (net.len() - ENDS) / 4
@@ -277,7 +278,7 @@ fn draw(want: Wanted, rule: Rule, b: Bounds) -> Bounds
 
 // The rivals of end k go, if it is taken.
 fn shun_one(net: &[u32], k: usize, b: Bounds) -> Bounds
-    requires { ⌜ 20 ≤ length (now net) ⌝ }
+    requires { ⌜ (limits .mostEnds) ≤ length (now net) ⌝ }
     ensures { λ r. ⌜ ((want : Wanted) → Keeps (good (now (net .entry)) want) b r) ⌝ }
 {
     if ENDS <= k {
@@ -291,7 +292,7 @@ fn shun_one(net: &[u32], k: usize, b: Bounds) -> Bounds
 
 // The rivals of these ends go, as far as they are taken.
 fn shun(net: &[u32], ends: u32, b: Bounds) -> Bounds
-    requires { ⌜ 20 ≤ length (now net) ⌝ }
+    requires { ⌜ (limits .mostEnds) ≤ length (now net) ⌝ }
     ensures { λ r. ⌜ ((want : Wanted) → Keeps (good (now (net .entry)) want) b r) ⌝ }
 {
     let mut low = b;
@@ -306,7 +307,7 @@ fn shun(net: &[u32], ends: u32, b: Bounds) -> Bounds
 
 // Bounds that were drawn together, and what the rivals of newly taken ends leave of them.
 fn spread(net: &[u32], must: u32, b: Bounds) -> Bounds
-    requires { ⌜ 20 ≤ length (now net) ⌝ }
+    requires { ⌜ (limits .mostEnds) ≤ length (now net) ⌝ }
     ensures { λ r. ⌜ ((want : Wanted) → Keeps (good (now (net .entry)) want) b r) ⌝ }
 {
     if b.must == must {
@@ -327,7 +328,7 @@ fn ask(want: Wanted, b: Bounds) -> Bounds
 
 // What is wanted, and every rule in turn, as long as something is left.
 fn tighten(net: &[u32], want: Wanted, b: Bounds) -> Bounds
-    requires { ⌜ 20 ≤ length (now net) ⌝ }
+    requires { ⌜ (limits .mostEnds) ≤ length (now net) ⌝ }
     ensures { λ r. ⌜ Keeps (good (now (net .entry)) want) b r ⌝ }
 {
     let mut low = spread(net, b.must, ask(want, b));
@@ -352,7 +353,7 @@ fn slack(b: Bounds) -> u64
 
 // Until nothing changes.
 pub fn settle(net: &[u32], want: Wanted, b: Bounds) -> Bounds
-    requires { ⌜ 20 ≤ length (now net) ⌝ }
+    requires { ⌜ (limits .mostEnds) ≤ length (now net) ⌝ }
     ensures { λ r. ⌜ Keeps (good (now (net .entry)) want) b r ⌝ }
 {
     let mut low = tighten(net, want, shun(net, b.must, b));
@@ -368,8 +369,8 @@ pub fn settle(net: &[u32], want: Wanted, b: Bounds) -> Bounds
 
 // Whether the set has a rival of end k.
 fn is_rivalled(net: &[u32], c: u32, k: usize) -> bool
-    requires { ⌜ 20 ≤ length (now net) ⌝ }
-    ensures { λ r. ⌜ r ≡ ltb k 20 && meets 32 c (at (now (net .entry)) k) ⌝ }
+    requires { ⌜ (limits .mostEnds) ≤ length (now net) ⌝ }
+    ensures { λ r. ⌜ r ≡ ltb k (limits .mostEnds) && meets 32 c (at (now (net .entry)) k) ⌝ }
 {
     if ENDS <= k {
         return false;
@@ -379,7 +380,7 @@ fn is_rivalled(net: &[u32], c: u32, k: usize) -> bool
 
 // Whether no two ends of the set are rivals.
 fn is_apart(net: &[u32], c: u32) -> bool
-    requires { ⌜ 20 ≤ length (now net) ⌝ }
+    requires { ⌜ (limits .mostEnds) ≤ length (now net) ⌝ }
     ensures { λ r. ⌜ r ≡ apart (now (net .entry)) c ⌝ }
 {
     let mut left = c;
@@ -395,7 +396,7 @@ fn is_apart(net: &[u32], c: u32) -> bool
 
 // The set c passes the net and holds what is wanted.
 pub fn passes(net: &[u32], want: Wanted, c: u32) -> bool
-    requires { ⌜ 20 ≤ length (now net) ⌝ }
+    requires { ⌜ (limits .mostEnds) ≤ length (now net) ⌝ }
     ensures { λ r. ⌜ r ≡ good (now (net .entry)) want c ⌝ }
 {
     if !has_least(c, want.ends, want.least) {

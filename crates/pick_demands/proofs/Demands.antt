@@ -21,7 +21,7 @@ use Rattle.pick_bounds.specs.Bounds.{good, enough, heeds, Part, Without, Betwee
 use Rattle.pick_bounds.proofs.Sets.{has-and, has-or, count-part, count-apart, meets-at, meets-none, meets-part, meets-zero, held-none, held-part, held-both, cover}
 use Rattle.pick_bounds.proofs.Pruning.{meeting}
 use Rattle.pick_bounds.proofs.Rules.{obeys-facts, passes-wanted, obeyed}
-use Rattle.pick_demands.specs.Demands.{Asks, Caps, Listed, Rouses, Obeying, Most}
+use Rattle.pick_demands.specs.Demands.{Asks, Caps, DemandsListed, Rouses, Obeying, Most}
 
 -- ---- sets
 module _ (c d r : ℕ) (w : Without c d r) (k : ℕ) where
@@ -130,7 +130,7 @@ module _ (list : List ℕ) (count ends least : ℕ) (room : 2 * count + 1 < leng
   second : at both (2 * count + 1) ≡ least
   second = getD-set-same one (2 * count + 1) least 0 (let e = length-set list (2 * count) ends in omega arith)
 
-  pub listed-more : (p : ℕ → Bool) (b : Bounds) → Listed p b list count → Asks p b ends least → Listed p b both (count + 1)
+  pub listed-more : (p : ℕ → Bool) (b : Bounds) → DemandsListed p b list count → Asks p b ends least → DemandsListed p b both (count + 1)
   listed-more p b f g i h x e w =
       elim (decLt i count) [
         | yes j ↦ rw (old (2 * i) (omega arith), old (2 * i + 1) (omega arith)) (f i j x e w)
@@ -151,15 +151,15 @@ pub rouses-one : (list : List ℕ) (count when i : ℕ) → i < count → ((x : 
 rouses-one list count when i l f = λ x g. f x (g i l)
 
 module _ (p : ℕ → Bool) (rule : Rule) (b : Bounds) (list : List ℕ) (count : ℕ) (all-obey : Obeying p rule) where
-  roused : Listed p b list count → Rouses list count (rule .when) → (x : ℕ) → p x ≡ true → Between b x → meets 32 x (rule .when) ≡ true
+  roused : DemandsListed p b list count → Rouses list count (rule .when) → (x : ℕ) → p x ≡ true → Between b x → meets 32 x (rule .when) ≡ true
   roused f g x e w = g x (λ i l. f i l x e w)
 
-  pub asks-roused : (r free : ℕ) → Listed p b list count → Rouses list count (rule .when) → Lacks b (rule .only) (rule .lo) r → Without (b .may) (b .must) free
+  pub asks-roused : (r free : ℕ) → DemandsListed p b list count → Rouses list count (rule .when) → Lacks b (rule .only) (rule .lo) r → Without (b .may) (b .must) free
       → Asks p b (bitAnd free (rule .only)) r
   asks-roused r free f g h w = λ x e z. h free x w z (rule-asks rule x (all-obey x e) (roused f g x e z))
 
   -- ---- what bounds from above
-  pub caps-roused : Listed p b list count → Rouses list count (rule .when) → Caps p b (rule .only) (rule .hi)
+  pub caps-roused : DemandsListed p b list count → Rouses list count (rule .when) → Caps p b (rule .only) (rule .hi)
   caps-roused f g = λ x e w. rule-caps rule x (all-obey x e) (roused f g x e w)
 
   pub caps-taken : meets 32 (b .must) (rule .when) ≡ true → Caps p b (rule .only) (rule .hi)

@@ -18,8 +18,8 @@ abbrev pub Caps : (ℕ → Bool) → Bounds → ℕ → ℕ → Type 0
 Caps passing b ends most = (x : ℕ) → passing x ≡ true → Between b x → held 32 x ends ≤ most
 
 -- the first demands of a list, two cells each, are asked of every such set
-abbrev pub Listed : (ℕ → Bool) → Bounds → List ℕ → ℕ → Type 0
-Listed passing b list count = (i : ℕ) → i < count → Asks passing b (at list (2 * i)) (at list (2 * i + 1))
+abbrev pub DemandsListed : (ℕ → Bool) → Bounds → List ℕ → ℕ → Type 0
+DemandsListed passing b list count = (i : ℕ) → i < count → Asks passing b (at list (2 * i)) (at list (2 * i + 1))
 
 -- a set that meets all demands of the list meets these ends
 abbrev pub Rouses : List ℕ → ℕ → ℕ → Type 0

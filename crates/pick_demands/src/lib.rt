@@ -11,7 +11,8 @@ ghost use lib.ListN.{length};
 ghost use Rattle.paper.specs.Lists.{has};
 ghost use Rattle.pick_bounds.specs.Net.{meets, held};
 ghost use Rattle.pick_bounds.specs.Bounds.{good, heeds, Part, Without, Between, NoneIn};
-ghost use Rattle.pick_demands.specs.Demands.{Asks, Listed, Shuns, Most, Huddled, Caps, Rouses, Obeying};
+ghost use Rattle.pick_demands.specs.Demands.{Asks, DemandsListed, Shuns, Most, Huddled, Caps, Rouses, Obeying};
+ghost use Rattle.paper.specs.Limits.{limits};
 
 // A group of rivals, and the ends that are rivals of all of them.
 struct Group {
@@ -58,7 +59,7 @@ fn admit(h: Group, foes: u32, k: usize) -> Group
 
 // Some of these ends, the first among them, of which a set that passes has one at most.
 fn huddle(net: &[u32], ends: u32) -> u32
-    requires { ⌜ 20 ≤ length (now net) ⌝ }
+    requires { ⌜ (limits .mostEnds) ≤ length (now net) ⌝ }
     ensures { λ r. ⌜ ((want : Wanted) → Most (good (now (net .entry)) want) r 1) ⌝ }
 {
     let mut h = Group {
@@ -77,7 +78,7 @@ fn huddle(net: &[u32], ends: u32) -> u32
 
 // A number of these ends that no set that passes has more of: groups of rivals are taken away, until none is left.
 fn crowd(net: &[u32], ends: u32) -> u32
-    requires { ⌜ 20 ≤ length (now net) ⌝ }
+    requires { ⌜ (limits .mostEnds) ≤ length (now net) ⌝ }
     ensures { λ r. ⌜ ((want : Wanted) → Most (good (now (net .entry)) want) ends r) ⌝ }
 {
     let mut left = ends;
@@ -124,7 +125,7 @@ fn lack(want: Wanted, rule: Rule, b: Bounds) -> u32
 // One demand more on the list, if it is one and there is room.
 fn note(list: &mut [u32], count: usize, ends: u32, least: u32) -> usize
     requires { ⌜ (count ≤ 12) × (24 ≤ length (now list)) ⌝ }
-    ensures { λ r. ⌜ (r ≤ 12) × ((passing : ℕ → Bool) (b : Bounds) → Listed passing b (now (list .entry)) count → Asks passing b ends least → Listed passing b (now (list .exit)) r) ⌝ }
+    ensures { λ r. ⌜ (r ≤ 12) × ((passing : ℕ → Bool) (b : Bounds) → DemandsListed passing b (now (list .entry)) count → Asks passing b ends least → DemandsListed passing b (now (list .exit)) r) ⌝ }
 {
     if least == 0 {
         return count;
@@ -141,8 +142,8 @@ fn note(list: &mut [u32], count: usize, ends: u32, least: u32) -> usize
 
 // What the rules that are set off lack.
 fn list_direct(net: &[u32], want: Wanted, b: Bounds, list: &mut [u32]) -> usize
-    requires { ⌜ (20 ≤ length (now net)) × (24 ≤ length (now list)) ⌝ }
-    ensures { λ r. ⌜ (r ≤ 12) × Listed (good (now (net .entry)) want) b (now (list .exit)) r ⌝ }
+    requires { ⌜ (limits .mostEnds ≤ length (now net)) × (24 ≤ length (now list)) ⌝ }
+    ensures { λ r. ⌜ (r ≤ 12) × DemandsListed (good (now (net .entry)) want) b (now (list .exit)) r ⌝ }
 {
     let open = pick_bounds::without(b.may, b.must);
     let n = pick_bounds::size(net);
@@ -182,7 +183,7 @@ fn rouses(list: &[u32], count: usize, when: u32) -> bool
 // How many open ends of a rule are lacked that the list sets off.
 fn lack_roused(rule: Rule, b: Bounds, list: &[u32], count: usize) -> u32
     requires { ⌜ (count ≤ 12) × (24 ≤ length (now list)) ⌝ }
-    ensures { λ r. ⌜ ((passing : ℕ → Bool) (free : ℕ) → Obeying passing rule → Listed passing b (now (list .entry)) count → Without (b .may) (b .must) free → Asks passing b (bitAnd free (rule .only)) r) ⌝ }
+    ensures { λ r. ⌜ ((passing : ℕ → Bool) (free : ℕ) → Obeying passing rule → DemandsListed passing b (now (list .entry)) count → Without (b .may) (b .must) free → Asks passing b (bitAnd free (rule .only)) r) ⌝ }
 {
     if pick_bounds::has_least(b.must, rule.only, rule.lo) {
         return 0;
@@ -199,8 +200,8 @@ fn lack_roused(rule: Rule, b: Bounds, list: &[u32], count: usize) -> u32
 
 // What the rules that the list sets off lack, from the last rule to the first: inner forks stand before outer ones, and the outer set off the inner.
 fn list_roused(net: &[u32], b: Bounds, list: &mut [u32], from: usize) -> usize
-    requires { ⌜ (20 ≤ length (now net)) × (24 ≤ length (now list)) × (from ≤ 12) ⌝ }
-    ensures { λ r. ⌜ (r ≤ 12) × ((want : Wanted) → Listed (good (now (net .entry)) want) b (now (list .entry)) from → Listed (good (now (net .entry)) want) b (now (list .exit)) r) ⌝ }
+    requires { ⌜ (limits .mostEnds ≤ length (now net)) × (24 ≤ length (now list)) × (from ≤ 12) ⌝ }
+    ensures { λ r. ⌜ (r ≤ 12) × ((want : Wanted) → DemandsListed (good (now (net .entry)) want) b (now (list .entry)) from → DemandsListed (good (now (net .entry)) want) b (now (list .exit)) r) ⌝ }
 {
     let open = pick_bounds::without(b.may, b.must);
     let mut count = from;
@@ -216,8 +217,8 @@ fn list_roused(net: &[u32], b: Bounds, list: &mut [u32], from: usize) -> usize
 
 // All that is asked of the open ends.
 fn list_all(net: &[u32], want: Wanted, b: Bounds, list: &mut [u32]) -> usize
-    requires { ⌜ (20 ≤ length (now net)) × (24 ≤ length (now list)) ⌝ }
-    ensures { λ r. ⌜ (r ≤ 12) × Listed (good (now (net .entry)) want) b (now (list .exit)) r ⌝ }
+    requires { ⌜ (limits .mostEnds ≤ length (now net)) × (24 ≤ length (now list)) ⌝ }
+    ensures { λ r. ⌜ (r ≤ 12) × DemandsListed (good (now (net .entry)) want) b (now (list .exit)) r ⌝ }
 {
     let direct = list_direct(net, want, b, list);
     let open = pick_bounds::without(b.may, b.must);
@@ -266,7 +267,7 @@ fn share(ends: u32, least: u32, of: u32) -> Wanted
 // What is asked for of these ends in all, the last demands first: those of pins come after those of forks.
 fn asked_of(list: &[u32], count: usize, of: u32) -> Wanted
     requires { ⌜ (count ≤ 12) × (24 ≤ length (now list)) ⌝ }
-    ensures { λ r. ⌜ ((passing : ℕ → Bool) (b : Bounds) → Listed passing b (now (list .entry)) count → Asks passing b (r .ends) (r .least)) × Part (r .ends) of ⌝ }
+    ensures { λ r. ⌜ ((passing : ℕ → Bool) (b : Bounds) → DemandsListed passing b (now (list .entry)) count → Asks passing b (r .ends) (r .least)) × Part (r .ends) of ⌝ }
 {
     let mut all = Wanted { ends: 0, least: 0 };
     let mut i = count;
@@ -280,8 +281,8 @@ fn asked_of(list: &[u32], count: usize, of: u32) -> Wanted
 
 // More is asked for than goes together.
 fn is_crowded(net: &[u32], list: &[u32], count: usize) -> bool
-    requires { ⌜ (20 ≤ length (now net)) × (count ≤ 12) × (24 ≤ length (now list)) ⌝ }
-    ensures { λ r. ⌜ (r ≡ true → (want : Wanted) (b : Bounds) → Listed (good (now (net .entry)) want) b (now (list .entry)) count → NoneIn (good (now (net .entry)) want) b) ⌝ }
+    requires { ⌜ (limits .mostEnds ≤ length (now net)) × (count ≤ 12) × (24 ≤ length (now list)) ⌝ }
+    ensures { λ r. ⌜ (r ≡ true → (want : Wanted) (b : Bounds) → DemandsListed (good (now (net .entry)) want) b (now (list .entry)) count → NoneIn (good (now (net .entry)) want) b) ⌝ }
 {
     let all = asked_of(list, count, EVERY);
     // one end goes together with itself
@@ -294,7 +295,7 @@ fn is_crowded(net: &[u32], list: &[u32], count: usize) -> bool
 // More is asked for of these ends than so many.
 fn is_over(list: &[u32], count: usize, ends: u32, most: u32, b: Bounds) -> bool
     requires { ⌜ (count ≤ 12) × (24 ≤ length (now list)) ⌝ }
-    ensures { λ r. ⌜ (r ≡ true → (passing : ℕ → Bool) → Listed passing b (now (list .entry)) count → Caps passing b ends most → NoneIn passing b) ⌝ }
+    ensures { λ r. ⌜ (r ≡ true → (passing : ℕ → Bool) → DemandsListed passing b (now (list .entry)) count → Caps passing b ends most → NoneIn passing b) ⌝ }
 {
     let may = pick_bounds::held(b.may, ends);
     if may <= most {
@@ -311,7 +312,7 @@ fn is_over(list: &[u32], count: usize, ends: u32, most: u32, b: Bounds) -> bool
 // Whether a rule bounds every set between the bounds from above: it does where its own ends set it off, or it is set off.
 fn is_cap(rule: Rule, b: Bounds, list: &[u32], count: usize) -> bool
     requires { ⌜ (count ≤ 12) × (24 ≤ length (now list)) ⌝ }
-    ensures { λ r. ⌜ (r ≡ true → (passing : ℕ → Bool) → Obeying passing rule → Listed passing b (now (list .entry)) count → Caps passing b (rule .only) (rule .hi)) ⌝ }
+    ensures { λ r. ⌜ (r ≡ true → (passing : ℕ → Bool) → Obeying passing rule → DemandsListed passing b (now (list .entry)) count → Caps passing b (rule .only) (rule .hi)) ⌝ }
 {
     if pick_bounds::ALL <= rule.hi {
         return false;
@@ -344,8 +345,8 @@ fn both_caps(all: Room, rule: Rule) -> Room
 
 // More is asked for than some rule has room for, or than all rules have that bound different ends.
 fn is_overdrawn(net: &[u32], b: Bounds, list: &[u32], count: usize) -> bool
-    requires { ⌜ (20 ≤ length (now net)) × (count ≤ 12) × (24 ≤ length (now list)) ⌝ }
-    ensures { λ r. ⌜ (r ≡ true → (want : Wanted) → Listed (good (now (net .entry)) want) b (now (list .entry)) count → NoneIn (good (now (net .entry)) want) b) ⌝ }
+    requires { ⌜ (limits .mostEnds ≤ length (now net)) × (count ≤ 12) × (24 ≤ length (now list)) ⌝ }
+    ensures { λ r. ⌜ (r ≡ true → (want : Wanted) → DemandsListed (good (now (net .entry)) want) b (now (list .entry)) count → NoneIn (good (now (net .entry)) want) b) ⌝ }
 {
     let mut all = Room { ends: 0, most: 0 };
     let n = pick_bounds::size(net);
@@ -411,7 +412,7 @@ fn hardest(list: &[u32], count: usize, blame: u32) -> Wanted
 
 // What is seen between settled bounds, where `blame` has ends that could not be had before.
 pub fn look(net: &[u32], want: Wanted, blame: u32, b: Bounds) -> View
-    requires { ⌜ 20 ≤ length (now net) ⌝ }
+    requires { ⌜ (limits .mostEnds) ≤ length (now net) ⌝ }
     ensures { λ r. ⌜ (r .hopeless ≡ true → NoneIn (good (now (net .entry)) want) b) ⌝ }
 {
     let mut list = [0u32; CELLS];

@@ -22,7 +22,7 @@ use Rattle.offers.specs.declared.Offers.{Offers}
 use Rattle.ends_masks.specs.declared.Ends.{Ends}
 use Rattle.ends_masks.proofs.Rules.{if-so}
 use Rattle.ends_masks.specs.Seating.{kept, passed, seats, served, actionFits, fits, noRivals, forksWhole, destinationsFit, allowed}
-use Rattle.pick_rules.specs.Rules.{holds, allPass, onEach, Starts, Added, AddedUpto, Roomy, clashKept, forkKept, edgeKept, idleKept, pinKept, storeKept, destinationTests}
+use Rattle.pick_rules.specs.Rules.{holds, allPass, onEach, Starts, RulesAdded, AddedUpto, Roomy, clashKept, forkKept, edgeKept, idleKept, pinKept, storeKept, destinationTests}
 use Rattle.pick_rules.proofs.Rows.{added-then, started-then}
 use Rattle.pick_rules.proofs.Destinations.{edgePart, idlePart, seatPart, tests-say}
 
@@ -236,6 +236,6 @@ module _ (t : List ℕ) (o : Offers) (es : Ends) (runs stock : List ℕ) (c : �
 
   -- so the runs of rows, one after the other, say it
   pub filled-says : {l₁ l₂ l₃ : List ℕ} {r₂ r₃ most : ℕ} → Starts l₁ (es .count) (clashes ∷ []) → AddedUpto l₁ 0 l₂ r₂ (es .count) (forkKept t (o .node) (o .parents) (es .makers) (o .count) (es .count)) (o .count)
-      → Added l₂ r₂ l₃ r₃ most (es .count) (destinationTests t (es .edge) (es .target) (es .home) runs stock (es .count))
+      → RulesAdded l₂ r₂ l₃ r₃ most (es .count) (destinationTests t (es .edge) (es .target) (es .home) runs stock (es .count))
       → holds l₃ r₃ (es .count) c ≡ allowed t o es runs stock c
   filled-says h i j = started-then h (added-then i j) c ∙ rules-say

@@ -19,7 +19,7 @@ use Rattle.paper.proofs.Members.{below-in, any-none, any-count}
 use Rattle.pick_bounds.specs.Net.{rule, obeys}
 use Rattle.ends_masks.proofs.Rules.{if-so}
 use Rattle.ends_masks.specs.Seating.{seats, served}
-use Rattle.pick_rules.specs.Rules.{allPass, onEach, Added, AddedUpto, Bars, vacant, leads, firstRow, edgeKept, edgeRow, edgeBar, idleKept, pinKept, storeKept, seatsKept, targetRow, pinBar, nodeBar, barsKept, destinationTests}
+use Rattle.pick_rules.specs.Rules.{allPass, onEach, RulesAdded, AddedUpto, BarredEnds, vacant, leads, firstRow, edgeKept, edgeRow, edgeBar, idleKept, pinKept, storeKept, seatsKept, targetRow, pinBar, nodeBar, barsKept, destinationTests}
 use Rattle.pick_rules.proofs.Rows.{added-then, added-alike, added-same}
 use Rattle.pick_rules.proofs.Masks.{bars-or, bars-all, bars-row}
 
@@ -166,15 +166,15 @@ module _ (t edge target home runs stock : List ℕ) (n c : ℕ) where
 
 -- what is barred at edges and at nodes
 pub bars-kept : (t edge target home runs stock : List ℕ) {n es ns x y : ℕ} → es ≡ edges t → ns ≡ nodes t
-    → Bars n x (onEach (edgeBar t edge target home n) (below es)) → Bars n y (onEach (nodeBar t target home runs stock n) (below ns))
-    → Bars n (bitOr x y) (barsKept t edge target home runs stock n)
+    → BarredEnds n x (onEach (edgeBar t edge target home n) (below es)) → BarredEnds n y (onEach (nodeBar t target home runs stock n) (below ns))
+    → BarredEnds n (bitOr x y) (barsKept t edge target home runs stock n)
 bars-kept t edge target home runs stock {n} ee en be bn =
     bars-or (bars-all (edgeBar t edge target home n) ee be) (bars-all (nodeBar t target home runs stock n) en bn)
 
 -- the rows of edges, of targets and of what is barred, one after the other
 pub destinations-added : (t edge target home runs stock : List ℕ) {n x : ℕ} {l₁ l₂ l₃ l₄ : List ℕ} {r₁ r₂ r₃ r₄ : ℕ} → n ≤ 20
     → AddedUpto l₁ r₁ l₂ r₂ n (edgeRow t edge target home n) n → AddedUpto l₂ r₂ l₃ r₃ n (targetRow t target home runs stock n) n
-    → Bars n x (barsKept t edge target home runs stock n) → Added l₃ r₃ l₄ r₄ 1 n (obeys n (rule x x 0 0) ∷ [])
-    → Added l₁ r₁ l₄ r₄ 41 n (destinationTests t edge target home runs stock n)
+    → BarredEnds n x (barsKept t edge target home runs stock n) → RulesAdded l₃ r₃ l₄ r₄ 1 n (obeys n (rule x x 0 0) ∷ [])
+    → RulesAdded l₁ r₁ l₄ r₄ 41 n (destinationTests t edge target home runs stock n)
 destinations-added t edge target home runs stock few es ts b last =
     added-alike (omega arith) (λ c. refl) (added-then (added-then es ts) (added-same (bars-row b) last))

@@ -19,14 +19,14 @@ use Rattle.paper.proofs.Counts.{any-below-none}
 use Rattle.paper.proofs.Lists.{all-below, below-all}
 use Rattle.paper.proofs.Members.{any-in, in-any, in-below, below-in}
 use Rattle.offers.specs.Sets.{Marks}
-use Rattle.pick_bounds.specs.Net.{rule, clash, rivalsAt, meets, inBoth, held, obeys}
+use Rattle.pick_bounds.specs.Net.{rule, clashRule, rivalsAt, meets, inBoth, held, obeys}
 use Rattle.pick_bounds.proofs.FourKinds.{clash-obeyed, need-obeyed, cap-obeyed}
 use Rattle.pick_bounds.proofs.Rules.{obeys-apart}
 use Rattle.ends_masks.specs.Seating.{rival, rivalled, makes, siblings, kept, seats, served}
 use Rattle.ends_masks.proofs.Numbers.{any-below-alike}
 use Rattle.choice_masks.specs.Masks.{Owned}
 use Rattle.pick_wanted.proofs.Masks.{meets-marks, held-marks, meets-served}
-use Rattle.pick_rules.specs.Rules.{holds, onEach, Starts, leads, vacant, firstRow, Bars, clashKept, forkKept, edgeKept, edgeBar, pinKept, storeKept, seatsKept, nodeBar}
+use Rattle.pick_rules.specs.Rules.{holds, onEach, Starts, leads, vacant, firstRow, BarredEnds, clashKept, forkKept, edgeKept, edgeBar, pinKept, storeKept, seatsKept, nodeBar}
 use Rattle.pick_rules.specs.Rules.{idleKept, pinBar}
 
 -- those that have x in a column are counted
@@ -58,15 +58,15 @@ module _ (column : List ℕ) (most : ℕ) (keeps : ℕ → Bool) (k : ℕ) where
 
 -- ---- rule 1
 module _ (foes makers : List ℕ) (n : ℕ) where
-  clash-says : (k w c : ℕ) → k < n → Marks (rival foes makers k) n w → obeys n (clash k w) c ≡ clashKept foes makers n k c
+  clash-says : (k w c : ℕ) → k < n → Marks (rival foes makers k) n w → obeys n (clashRule k w) c ≡ clashKept foes makers n k c
   unfolding clashKept rivalled
   clash-says k w c l h = clash-obeyed n c k w l ∙ ap (λ (b : Bool). not (has c k && b)) (meets-marks h c)
 
   -- what is past the last end binds no set of n ends
-  clash-past : (k w c : ℕ) → n ≤ k → obeys n (clash k w) c ≡ true
+  clash-past : (k w c : ℕ) → n ≤ k → obeys n (clashRule k w) c ≡ true
   unfolding meets
   clash-past k w c l =
-      obeys-apart n (clash k w) c (any-below-none (inBoth c (2 ^ k)) n (λ j g. rw (has-pow k j, ne-eqb j k (λ e. omega arith)) (and-never (has c j))))
+      obeys-apart n (clashRule k w) c (any-below-none (inBoth c (2 ^ k)) n (λ j g. rw (has-pow k j, ne-eqb j k (λ e. omega arith)) (and-never (has c j))))
 
   -- the cells below k are filled
   pub record Filled (net : List ℕ) (k : ℕ) : Type 0 where
@@ -79,8 +79,8 @@ module _ (foes makers : List ℕ) (n : ℕ) where
   filled-more net k w room few h f = record {
     cells = λ j l c.
         elim (decLt j k) [
-          | yes g ↦ ap (λ (x : ℕ). obeys n (clash j x) c) (getD-set-other net k j w 0 (omega arith)) ∙ f .cells j g c
-          | no g ↦ let e : j ≡ k = omega arith in rw e (ap (λ (x : ℕ). obeys n (clash k x) c) (getD-set-same net k w 0 room) ∙ clash-says k w c few h)
+          | yes g ↦ ap (λ (x : ℕ). obeys n (clashRule j x) c) (getD-set-other net k j w 0 (omega arith)) ∙ f .cells j g c
+          | no g ↦ let e : j ≡ k = omega arith in rw e (ap (λ (x : ℕ). obeys n (clashRule k x) c) (getD-set-same net k w 0 room) ∙ clash-says k w c few h)
         ];
   }
 
@@ -189,7 +189,7 @@ module _ (t edge target home : List ℕ) (n e c : ℕ) where
   edge-other i q ne = rw (ne-eqb (kind t (targetOfEdge t e)) 2 (λ k. ne (ap (kind t) q ∙ k)))
 
 module _ (t edge target home : List ℕ) (n e : ℕ) where
-  pub edge-bars : (i w : ℕ) → i ≡ targetOfEdge t e → kind t i ≡ 2 → vacant edge n e ≡ true → Owned target home n i w → Bars n w (edgeBar t edge target home n e)
+  pub edge-bars : (i w : ℕ) → i ≡ targetOfEdge t e → kind t i ≡ 2 → vacant edge n e ≡ true → Owned target home n i w → BarredEnds n w (edgeBar t edge target home n e)
   unfolding edgeBar
   edge-bars i w q k v o = record {
     says = λ c.
@@ -242,7 +242,7 @@ module _ (t target home runs stock : List ℕ) (n i : ℕ) where
   pub idle-bars : kind t i ≡ 2 → at runs i ≡ 0 → (c : ℕ) → bar c ≡ true
   idle-bars e z c = at-action c e ∙ rw z (if-none (served target home n c i))
 
-  pub busy-bars : (w : ℕ) → kind t i ≡ 2 → (at runs i ≡ 0 → ⊥) → Owned target home n i w → Bars n w bar
+  pub busy-bars : (w : ℕ) → kind t i ≡ 2 → (at runs i ≡ 0 → ⊥) → Owned target home n i w → BarredEnds n w bar
   busy-bars w e ne o = record {
     says = λ c.
         ap not (meets-served target home n i w c o)
@@ -260,7 +260,7 @@ module _ (t target home runs stock : List ℕ) (n i : ℕ) where
   unfolding nodeBar idleKept pinBar
   at-pin c e = rw e
 
-  pub pin-bars : (j w : ℕ) → kind t i ≡ 3 → j ≡ owner t i → 1 ≤ lower t i → vacant target n i ≡ true → Owned target home n j w → Bars n w bar
+  pub pin-bars : (j w : ℕ) → kind t i ≡ 3 → j ≡ owner t i → 1 ≤ lower t i → vacant target n i ≡ true → Owned target home n j w → BarredEnds n w bar
   pin-bars j w e ej l v o = record {
     says = λ c.
         ap not (meets-served target home n j w c o ∙ ap (served target home n c) ej)

@@ -20,7 +20,7 @@ use Rattle.pick_bounds.specs.Net.{rule, meets, held, inBoth, obeys}
 use Rattle.pick_bounds.proofs.Sets.{meets-held}
 use Rattle.pick_bounds.proofs.FourKinds.{cap-obeyed}
 use Rattle.ends_masks.proofs.Numbers.{any-below-alike}
-use Rattle.pick_rules.specs.Rules.{onEach, vacant, leads, Bars}
+use Rattle.pick_rules.specs.Rules.{onEach, vacant, leads, BarredEnds}
 use Rattle.pick_rules.proofs.Rows.{all-more, meets-zero}
 
 -- ---- a word is 0 exactly if nothing is marked
@@ -42,7 +42,7 @@ pub leads-word : (column : List ℕ) {n x w : ℕ} (k : ℕ) → k < n → x ≡
 leads-word column k l e m = marks-empty (marks-fewer k (omega arith) m) ∙ ap (vacant column k) e
 
 -- ---- ends that can't be taken
-pub bars-none : (n : ℕ) {p : ℕ → Bool} → ((c : ℕ) → p c ≡ true) → Bars n 0 p
+pub bars-none : (n : ℕ) {p : ℕ → Bool} → ((c : ℕ) → p c ≡ true) → BarredEnds n 0 p
 bars-none n h = record { says = λ c. ap not (meets-zero n c) ∙ sym (h c) }
 
 any-either : (p q : ℕ → Bool) (xs : List ℕ) → not (any (λ k. p k || q k) xs) ≡ not (any p xs) && not (any q xs)
@@ -55,7 +55,7 @@ any-either p q (x ∷ xs) = by (p x) (q x) (any p xs) (any q xs) (any (λ k. p k
     by false true false d e h = refl
     by false false c d e h = h
 
-pub bars-or : {n a b : ℕ} {p q : ℕ → Bool} → Bars n a p → Bars n b q → Bars n (bitOr a b) (λ c. p c && q c)
+pub bars-or : {n a b : ℕ} {p q : ℕ → Bool} → BarredEnds n a p → BarredEnds n b q → BarredEnds n (bitOr a b) (λ c. p c && q c)
 unfolding meets
 bars-or {n} {a} {b} f g = record {
   says = λ c.
@@ -70,14 +70,14 @@ bars-or {n} {a} {b} f g = record {
     share true y z = refl
     share false y z = refl
 
-pub bars-more : {n a b : ℕ} (q : ℕ → ℕ → Bool) (j : ℕ) → Bars n a (onEach q (below j)) → Bars n b (q j) → Bars n (bitOr a b) (onEach q (below (j + 1)))
+pub bars-more : {n a b : ℕ} (q : ℕ → ℕ → Bool) (j : ℕ) → BarredEnds n a (onEach q (below j)) → BarredEnds n b (q j) → BarredEnds n (bitOr a b) (onEach q (below (j + 1)))
 bars-more q j f g = record { says = λ c. bars-or f g .says c ∙ sym (all-more (λ i. q i c) j) }
 
-pub bars-all : {n w j k : ℕ} (q : ℕ → ℕ → Bool) → j ≡ k → Bars n w (onEach q (below j)) → Bars n w (onEach q (below k))
+pub bars-all : {n w j k : ℕ} (q : ℕ → ℕ → Bool) → j ≡ k → BarredEnds n w (onEach q (below j)) → BarredEnds n w (onEach q (below k))
 bars-all q e h = rw (sym e) h
 
 -- as a row
-pub bars-row : {n w : ℕ} {p : ℕ → Bool} → Bars n w p → (c : ℕ) → obeys n (rule w w 0 0) c ≡ p c
+pub bars-row : {n w : ℕ} {p : ℕ → Bool} → BarredEnds n w p → (c : ℕ) → obeys n (rule w w 0 0) c ≡ p c
 bars-row {n} {w} {p} h c = cap-obeyed n c w 0 ∙ by (held n c w) (meets n c w) (meets-held n c w) ∙ h .says c
   where
     by : (h : ℕ) (b : Bool) → b ≡ leb 1 h → leb h 0 ≡ not b

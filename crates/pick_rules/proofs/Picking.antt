@@ -28,4 +28,4 @@ pub sought : {t : List ℕ} {d : Board} {o : Offers} {es : Ends} {runs stock : L
     → ((c : ℕ) → leb (want .least) (held (es .count) c (want .ends)) ≡ not (named i) || served (es .target) (es .home) (es .count) c i)
     → (c : ℕ) → holds net count (es .count) c && leb (want .least) (held (es .count) c (want .ends)) ≡ wanted d i c
 sought {t} {d} {o} {es} {runs} {stock} s net count i want h w c =
-    ap₂ (λ (a b : Bool). a && b) (h c) (w c) ∙ sym (wanted-rows t d o (s .links) (s .trees) es c (s .seated) runs stock (s .told) i)
+    ap₂ (λ (a b : Bool). a && b) (h c) (w c) ∙ sym (wanted-rows t d o (s .beside) (s .trees) es c (s .seated) runs stock (s .told) i)

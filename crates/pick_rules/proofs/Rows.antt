@@ -25,14 +25,14 @@ use Rattle.pick_bounds.proofs.Rules.{obeys-apart, obeys-met}
 use Rattle.pick_bounds.proofs.Sets.{has-and, meets-held, meets-at, held-most, count-part}
 use Rattle.ends_masks.proofs.Numbers.{all-below-alike}
 use Rattle.ends_masks.proofs.Rules.{if-so}
-use Rattle.pick_rules.specs.Rules.{holds, allPass, onEach, Starts, Added, AddedUpto, AddedFrom}
+use Rattle.pick_rules.specs.Rules.{holds, allPass, onEach, Starts, RulesAdded, AddedUpto, AddedFrom}
 
 pub all-more : (p : ℕ → Bool) (k : ℕ) → all p (below (k + 1)) ≡ all p (below k) && p k
 all-more p k = ap (all p) (below-more k) ∙ all-append p (below k) (k ∷ []) ∙ ap (λ (b : Bool). all p (below k) && b) (and-true (p k))
 
 -- ---- growing
 -- a run of rows after another
-pub added-then : {a b d : List ℕ} {k r s x y m : ℕ} {ps qs : List (ℕ → Bool)} → Added a k b r x m ps → Added b r d s y m qs → Added a k d s (x + y) m (ps ++ qs)
+pub added-then : {a b d : List ℕ} {k r s x y m : ℕ} {ps qs : List (ℕ → Bool)} → RulesAdded a k b r x m ps → RulesAdded b r d s y m qs → RulesAdded a k d s (x + y) m (ps ++ qs)
 added-then {a} {b} {d} {k} {r} {s} {x} {y} {m} {ps} {qs} f g = record {
   few = let u = f .few in let v = g .few in omega arith;
   says = λ c.
@@ -43,19 +43,19 @@ added-then {a} {b} {d} {k} {r} {s} {x} {y} {m} {ps} {qs} f g = record {
 }
 
 -- after the rivals
-pub started-then : {b d : List ℕ} {s y m : ℕ} {ps qs : List (ℕ → Bool)} → Starts b m ps → Added b 0 d s y m qs → (c : ℕ) → holds d s m c ≡ allPass (ps ++ qs) c
+pub started-then : {b d : List ℕ} {s y m : ℕ} {ps qs : List (ℕ → Bool)} → Starts b m ps → RulesAdded b 0 d s y m qs → (c : ℕ) → holds d s m c ≡ allPass (ps ++ qs) c
 started-then {ps = ps} {qs = qs} f g c = g .says c ∙ ap (λ (z : Bool). z && allPass qs c) (f .says c) ∙ sym (all-append (λ p. p c) ps qs)
 
 module _ {before : List ℕ} {k : ℕ} {after : List ℕ} {r most m : ℕ} where
   -- in other words
-  pub added-alike : {ps qs : List (ℕ → Bool)} {more : ℕ} → most ≤ more → ((c : ℕ) → allPass ps c ≡ allPass qs c) → Added before k after r most m ps → Added before k after r more m qs
+  pub added-alike : {ps qs : List (ℕ → Bool)} {more : ℕ} → most ≤ more → ((c : ℕ) → allPass ps c ≡ allPass qs c) → RulesAdded before k after r most m ps → RulesAdded before k after r more m qs
   added-alike l h a = record { few = let f = a .few in omega arith; says = λ c. a .says c ∙ ap (λ (b : Bool). holds before k m c && b) (h c) }
 
-  pub added-same : {p q : ℕ → Bool} → ((c : ℕ) → p c ≡ q c) → Added before k after r most m (p ∷ []) → Added before k after r most m (q ∷ [])
+  pub added-same : {p q : ℕ → Bool} → ((c : ℕ) → p c ≡ q c) → RulesAdded before k after r most m (p ∷ []) → RulesAdded before k after r most m (q ∷ [])
   added-same h a = added-alike (omega arith) (λ c. ap (λ (b : Bool). b && true) (h c)) a
 
 -- no rule, where none is needed
-pub added-none : {net : List ℕ} {k most m : ℕ} {p : ℕ → Bool} → ((c : ℕ) → p c ≡ true) → Added net k net k most m (p ∷ [])
+pub added-none : {net : List ℕ} {k most m : ℕ} {p : ℕ → Bool} → ((c : ℕ) → p c ≡ true) → RulesAdded net k net k most m (p ∷ [])
 added-none {net} {k} {most} {m} {p} h = record {
   few = omega arith;
   says = λ c. sym (and-true (holds net k m c)) ∙ ap (λ (b : Bool). holds net k m c && (b && true)) (sym (h c));
@@ -66,7 +66,7 @@ pub upto-none : {net : List ℕ} {k m : ℕ} (q : ℕ → ℕ → Bool) → Adde
 upto-none q = added-none (λ c. refl)
 
 pub upto-more : {a b d : List ℕ} {k r s m : ℕ} {p : ℕ → Bool} (q : ℕ → ℕ → Bool) (j : ℕ) → AddedUpto a k b r m q j
-    → ((c : ℕ) → p c ≡ q j c) → Added b r d s 1 m (p ∷ []) → AddedUpto a k d s m q (j + 1)
+    → ((c : ℕ) → p c ≡ q j c) → RulesAdded b r d s 1 m (p ∷ []) → AddedUpto a k d s m q (j + 1)
 upto-more q j x h y =
     added-alike (omega arith)
     (λ c. sym (and-assoc (onEach q (below j) c) (q j c) true) ∙ ap (λ (b : Bool). b && true) (sym (all-more (λ i. q i c) j)))
@@ -79,7 +79,7 @@ pub from-none : {net : List ℕ} {k m : ℕ} (q : ℕ → ℕ → Bool) (j : ℕ
 from-none q j = let e : j - j ≡ 0 = omega arith in rw e (added-none (λ c. refl))
 
 from-next : {a b d : List ℕ} {k r s m : ℕ} (q : ℕ → ℕ → Bool) (z j : ℕ) → z < j
-    → AddedFrom a k b r m q (suc z) j → Added b r d s 1 m (q z ∷ []) → AddedFrom a k d s m q z j
+    → AddedFrom a k b r m q (suc z) j → RulesAdded b r d s 1 m (q z ∷ []) → AddedFrom a k d s m q z j
 from-next q z j l x y =
     let e : j - z ≡ suc (j - suc z) = omega arith in
     rw e
@@ -90,7 +90,7 @@ from-next q z j l x y =
     ∙ sym (and-true (q z c && onEach q (from (suc z) (j - suc z)) c))) (added-then x y))
 
 pub from-more : {a b d : List ℕ} {k r s m : ℕ} {p : ℕ → Bool} (q : ℕ → ℕ → Bool) (z j : ℕ) → 0 < z → z ≤ j
-    → AddedFrom a k b r m q z j → ((c : ℕ) → p c ≡ q (z - 1) c) → Added b r d s 1 m (p ∷ []) → AddedFrom a k d s m q (z - 1) j
+    → AddedFrom a k b r m q z j → ((c : ℕ) → p c ≡ q (z - 1) c) → RulesAdded b r d s 1 m (p ∷ []) → AddedFrom a k d s m q (z - 1) j
 from-more q zero j g l x h y = absurd (omega arith)
 from-more q (suc z) j g l x h y = let e : suc z - 1 ≡ z = omega arith in rw e (from-next q z j (omega arith) x (added-same {q = q z} (rw e at h) y))
 
@@ -202,7 +202,7 @@ module _ (net : List ℕ) (k when only lo hi : ℕ) (room : 20 + 4 * k + 3 < len
       let e4 : at (put net k when only lo hi) (row + 3) ≡ hi = getD-set-same c (row + 3) hi 0 (omega arith) in
       rw (e1, e2, e3, e4)
 
-  pub added-row : (m : ℕ) → Added net k (put net k when only lo hi) (k + 1) 1 m (obeys m (rule when only lo hi) ∷ [])
+  pub added-row : (m : ℕ) → RulesAdded net k (put net k when only lo hi) (k + 1) 1 m (obeys m (rule when only lo hi) ∷ [])
   unfolding holds
   added-row m = record {
     few = omega arith;

@@ -1,20 +1,30 @@
 -- Rules 1 to 3 on choices as a net of rules over sets of ends: what each row of it says, in the words of ends_masks. Assumes nothing.
 use mathlib.Core.Path.{_≡_}
-use Prim.Native.Nat.{ℕ, _+_, _-_, _≤_, _<_}
+use Prim.Native.Nat.{ℕ, _+_, _*_, _-_, _≤_, _<_}
 use mathlib.Core.Bool.{Bool, true, not, _&&_, _||_}
 use mathlib.Core.List.{List, [], _∷_}
 use lib.Dec.{leb, ltb, eqb}
 use lib.ListN.{length}
 use Rattle.paper.specs.Lists.{at, has, from, below, all, any, within, _⇒_}
 use Rattle.paper.specs.Table.{nodes, edges, kind, owner, lower, upper, target as targetOfEdge, isAction, isInput, isFork, isBuffer, isOutgoing}
+use Rattle.paper.specs.Limits.{limits}
 use Rattle.table.specs.declared.Table.{Table}
 use Rattle.pick_bounds.specs.Net.{meets, obeys, rivalsAt, ruleAt}
 use Rattle.ends_masks.specs.Seating.{rivalled, kept, seats, served}
 
+-- ---- room
+-- the rules that a call can have: a row for each offer, for each edge and each target with an end, and one for what can't be taken
+abbrev pub mostRules : ℕ
+mostRules = limits .mostOffers + (limits .mostEnds + limits .mostEnds) + 1
+
+-- the cells of a net with as many: the rivals of each end, then four for each rule
+abbrev pub netCells : ℕ
+netCells = limits .mostEnds + 4 * mostRules
+
 -- ---- a net as it grows
 -- the set c of m ends obeys the rivals of each end and the first k rules of a net
 unfoldable pub holds : List ℕ → ℕ → ℕ → ℕ → Bool
-holds net k m c = all (λ j. obeys m (rivalsAt net j) c) (below 20) && all (λ i. obeys m (ruleAt net i) c) (below k)
+holds net k m c = all (λ j. obeys m (rivalsAt net j) c) (below (limits .mostEnds)) && all (λ i. obeys m (ruleAt net i) c) (below k)
 
 -- c passes all of the tests
 abbrev pub allPass : List (ℕ → Bool) → ℕ → Bool
@@ -25,7 +35,7 @@ pub record Starts (net : List ℕ) (m : ℕ) (ps : List (ℕ → Bool)) : Type 0
   pub says : (c : ℕ) → holds net 0 m c ≡ allPass ps c
 
 -- k rules became r, at most `most` of them new, and the new ones say what the tests do
-pub record Added (before : List ℕ) (k : ℕ) (after : List ℕ) (r most m : ℕ) (ps : List (ℕ → Bool)) : Type 0 where
+pub record RulesAdded (before : List ℕ) (k : ℕ) (after : List ℕ) (r most m : ℕ) (ps : List (ℕ → Bool)) : Type 0 where
   pub few : r ≤ k + most
   pub says : (c : ℕ) → holds after r m c ≡ holds before k m c && allPass ps c
 
@@ -35,10 +45,10 @@ onEach q xs c = all (λ i. q i c) xs
 
 -- a rule at most for each number below j, and for each from z on that is below j
 abbrev pub AddedUpto : List ℕ → ℕ → List ℕ → ℕ → ℕ → (ℕ → ℕ → Bool) → ℕ → Type 0
-AddedUpto before k after r m q j = Added before k after r j m (onEach q (below j) ∷ [])
+AddedUpto before k after r m q j = RulesAdded before k after r j m (onEach q (below j) ∷ [])
 
 abbrev pub AddedFrom : List ℕ → ℕ → List ℕ → ℕ → ℕ → (ℕ → ℕ → Bool) → ℕ → ℕ → Type 0
-AddedFrom before k after r m q z j = Added before k after r (j - z) m (onEach q (from z (j - z)) ∷ [])
+AddedFrom before k after r m q z j = RulesAdded before k after r (j - z) m (onEach q (from z (j - z)) ∷ [])
 
 -- what a good marking has: no stock is over its upper
 abbrev pub Roomy : List ℕ → List ℕ → Type 0
@@ -58,7 +68,7 @@ abbrev pub firstRow : List ℕ → ℕ → (ℕ → Bool) → ℕ → Bool
 firstRow column most keeps k = ltb (at column k) most && leads column k ⇒ keeps (at column k)
 
 -- the choices that take none of the ends in the word w are those that pass the test
-pub record Bars (n w : ℕ) (p : ℕ → Bool) : Type 0 where
+pub record BarredEnds (n w : ℕ) (p : ℕ → Bool) : Type 0 where
   pub says : (c : ℕ) → not (meets n c w) ≡ p c
 
 -- ---- what the rows say of the ends, and of the rows that leave a fork

@@ -15,21 +15,24 @@ ghost use Rattle.offers.specs.Struct.{Full};
 ghost use Rattle.marking_held.specs.MarkingHeld.{HeldLengths};
 ghost use Rattle.ends_masks.specs.Seating.{EndsFull, allowed};
 ghost use Rattle.choice_masks.specs.Masks.{Masks};
-ghost use Rattle.pick_rules.specs.Rules.{holds, onEach, Starts, Added, AddedUpto, Roomy, Bars};
+ghost use Rattle.pick_rules.specs.Rules.{mostRules, netCells, holds, onEach, Starts, RulesAdded, AddedUpto, Roomy, BarredEnds};
 ghost use Rattle.pick_rules.specs.Rules.{clashKept, forkKept, edgeRow, edgeBar, targetRow, nodeBar, barsKept, destinationTests};
+ghost use Rattle.paper.specs.Limits.{limits};
 use choice_masks::fill_masks;
 use choice_masks::owned;
 use ends_masks::Ends;
 use marking_held::Held;
+use offers::MOST_ENDS;
+use offers::MOST_OFFERS;
 use offers::Offers;
 use pick_bounds::Rule;
 use table::Table;
 
-// The rules that a call can have: a row each of 64 offers, of 20 edges and of 20 targets with an end, and one for what can't be taken.
-pub const MOST: usize = 105;
+// The rules that a call can have: a row for each offer, for each edge and each target with an end, and one for what can't be taken.
+pub const MOST: usize = MOST_OFFERS + (MOST_ENDS + MOST_ENDS) + 1;
 
-// The cells of a net with as many rules, after the rivals of 20 ends.
-pub const CELLS: usize = 440;
+// The cells of a net with as many rules, after the rivals of each end.
+pub const CELLS: usize = MOST_ENDS + 4 * MOST;
 
 // ---- one row
 
@@ -64,8 +67,8 @@ fn is_idle(when: u32, only: u32, lo: u32, hi: u32) -> bool
 
 // A rule after k others: a set that meets `when` holds from lo to hi of the ends in `only`. One that binds nothing is left out.
 fn add(net: &mut [u32], k: usize, new: Rule) -> usize
-    requires { ⌜ (k < 105) × (440 ≤ length (now net)) ⌝ }
-    ensures { λ r. ⌜ ((m : ℕ) → m ≤ 32 → Added (now (net .entry)) k (now (net .exit)) r 1 m (obeys m new ∷ [])) ⌝ }
+    requires { ⌜ (k < mostRules) × (netCells ≤ length (now net)) ⌝ }
+    ensures { λ r. ⌜ ((m : ℕ) → m ≤ 32 → RulesAdded (now (net .entry)) k (now (net .exit)) r 1 m (obeys m new ∷ [])) ⌝ }
 {
     let most = bound(new.only, new.hi);
     if is_idle(new.when, new.only, new.lo, most) {
@@ -105,7 +108,7 @@ fn leads(here: u32, k: usize) -> bool
 
 // Each end is taken with none of its rivals. The cells past the last end bind no set of n ends, and are left as they are.
 pub fn fill_rivals(net: &mut [u32], foes: &[u64], makers: &[u64], n: usize)
-    requires { ⌜ (440 ≤ length (now net)) × (n ≤ length (now foes)) × (n ≤ length (now makers)) × (n ≤ 20) ⌝ }
+    requires { ⌜ (netCells ≤ length (now net)) × (n ≤ length (now foes)) × (n ≤ length (now makers)) × (n ≤ limits .mostEnds) ⌝ }
     ensures { λ _. ⌜ Starts (now (net .exit)) n (onEach (clashKept (now (foes .entry)) (now (makers .entry)) n) (below n) ∷ []) ⌝ }
 {
     let mut k: usize = 0;
@@ -128,7 +131,7 @@ fn fork_rule(
     n: usize,
     z: usize,
 ) -> Rule
-    requires { ⌜ (tableRead (now t) ≡ good table) × (rows ≤ length (now node)) × (rows ≤ length (now parents)) × (n ≤ length (now makers)) × (rows ≤ 64) × (z < rows) × (n ≤ 20) ⌝ }
+    requires { ⌜ (tableRead (now t) ≡ good table) × (rows ≤ length (now node)) × (rows ≤ length (now parents)) × (n ≤ length (now makers)) × (rows ≤ limits .mostOffers) × (z < rows) × (n ≤ limits .mostEnds) ⌝ }
     ensures { λ r. ⌜ ((c : ℕ) → obeys n r c ≡ forkKept (now (t .entry)) (now (node .entry)) (now (parents .entry)) (now (makers .entry)) rows n z c) ⌝ }
 {
     let i = wire::wide(node[z]);
@@ -158,7 +161,7 @@ pub fn add_forks(
     offers: Offers,
     ends: Ends,
 ) -> usize
-    requires { ⌜ (count + offers .count ≤ 105) × (440 ≤ length (now net)) × (tableRead (now t) ≡ good table) × Full offers × EndsFull ends ⌝ }
+    requires { ⌜ (count + offers .count ≤ mostRules) × (netCells ≤ length (now net)) × (tableRead (now t) ≡ good table) × Full offers × EndsFull ends ⌝ }
     ensures { λ r. ⌜ AddedUpto (now (net .entry)) count (now (net .exit)) r (ends .count) (forkKept (now (t .entry)) (offers .node) (offers .parents) (ends .makers) (offers .count) (ends .count)) (offers .count) ⌝ }
 {
     let node = offers.node;
@@ -187,7 +190,7 @@ fn edge_rule(
     by_home: &[u32],
     k: usize,
 ) -> Rule
-    requires { ⌜ (tableRead (now t) ≡ good table) × (k < length (now edge)) × (k < 20) × (table .edges ≤ length (now «by_edge»)) × (table .nodes ≤ length (now «by_target»)) × (table .nodes ≤ length (now «by_home»)) ⌝ }
+    requires { ⌜ (tableRead (now t) ≡ good table) × (k < length (now edge)) × (k < limits .mostEnds) × (table .edges ≤ length (now «by_edge»)) × (table .nodes ≤ length (now «by_target»)) × (table .nodes ≤ length (now «by_home»)) ⌝ }
     ensures { λ r. ⌜ ((target home : List ℕ) (n : ℕ) → k < n → Masks table (now (edge .entry)) target home n (now («by_edge» .entry)) (now («by_target» .entry)) (now («by_home» .entry)) → (c : ℕ) → obeys n r c ≡ edgeRow (now (t .entry)) (now (edge .entry)) target home n k c) ⌝ }
 {
     let e = wire::wide(edge[k]);
@@ -221,7 +224,7 @@ fn add_edges(
     by_home: &[u32],
     n: usize,
 ) -> usize
-    requires { ⌜ (count + n ≤ 105) × (440 ≤ length (now net)) × (tableRead (now t) ≡ good table) × (n ≤ length (now edge)) × (n ≤ 20) × (table .edges ≤ length (now «by_edge»)) × (table .nodes ≤ length (now «by_target»)) × (table .nodes ≤ length (now «by_home»)) ⌝ }
+    requires { ⌜ (count + n ≤ mostRules) × (netCells ≤ length (now net)) × (tableRead (now t) ≡ good table) × (n ≤ length (now edge)) × (n ≤ limits .mostEnds) × (table .edges ≤ length (now «by_edge»)) × (table .nodes ≤ length (now «by_target»)) × (table .nodes ≤ length (now «by_home»)) ⌝ }
     ensures { λ r. ⌜ (r ≤ count + n) × ((target home : List ℕ) → Masks table (now (edge .entry)) target home n (now («by_edge» .entry)) (now («by_target» .entry)) (now («by_home» .entry)) → AddedUpto (now (net .entry)) count (now (net .exit)) r n (edgeRow (now (t .entry)) (now (edge .entry)) target home n) n) ⌝ }
 {
     let mut r = count;
@@ -244,7 +247,7 @@ fn barred_at_edge(
     e: usize,
 ) -> u32
     requires { ⌜ (tableRead (now t) ≡ good table) × (e < table .edges) × (table .edges ≤ length (now «by_edge»)) × (table .nodes ≤ length (now «by_target»)) × (table .nodes ≤ length (now «by_home»)) ⌝ }
-    ensures { λ r. ⌜ ((edge target home : List ℕ) (n : ℕ) → Masks table edge target home n (now («by_edge» .entry)) (now («by_target» .entry)) (now («by_home» .entry)) → Bars n r (edgeBar (now (t .entry)) edge target home n e)) ⌝ }
+    ensures { λ r. ⌜ ((edge target home : List ℕ) (n : ℕ) → Masks table edge target home n (now («by_edge» .entry)) (now («by_target» .entry)) (now («by_home» .entry)) → BarredEnds n r (edgeBar (now (t .entry)) edge target home n e)) ⌝ }
 {
     if by_edge[e] != 0 {
         return 0;
@@ -264,7 +267,7 @@ fn barred_at_edges(
     by_home: &[u32],
 ) -> u32
     requires { ⌜ (tableRead (now t) ≡ good table) × (table .edges ≤ length (now «by_edge»)) × (table .nodes ≤ length (now «by_target»)) × (table .nodes ≤ length (now «by_home»)) ⌝ }
-    ensures { λ r. ⌜ ((edge target home : List ℕ) (n : ℕ) → Masks table edge target home n (now («by_edge» .entry)) (now («by_target» .entry)) (now («by_home» .entry)) → Bars n r (onEach (edgeBar (now (t .entry)) edge target home n) (below (table .edges)))) ⌝ }
+    ensures { λ r. ⌜ ((edge target home : List ℕ) (n : ℕ) → Masks table edge target home n (now («by_edge» .entry)) (now («by_target» .entry)) (now («by_home» .entry)) → BarredEnds n r (onEach (edgeBar (now (t .entry)) edge target home n) (below (table .edges)))) ⌝ }
 {
     let most = table.edges;
     let mut w: u32 = 0;
@@ -298,7 +301,7 @@ fn target_rule(
     stock: &[u8],
     k: usize,
 ) -> Rule
-    requires { ⌜ (tableRead (now t) ≡ good table) × (k < length (now target)) × (k < 20) × (table .nodes ≤ length (now «by_target»)) × (table .nodes ≤ length (now «by_home»)) × (table .nodes ≤ length (now stock)) ⌝ }
+    requires { ⌜ (tableRead (now t) ≡ good table) × (k < length (now target)) × (k < limits .mostEnds) × (table .nodes ≤ length (now «by_target»)) × (table .nodes ≤ length (now «by_home»)) × (table .nodes ≤ length (now stock)) ⌝ }
     ensures { λ r. ⌜ ((byEdge edge home runs : List ℕ) (n : ℕ) → k < n → Masks table edge (now (target .entry)) home n byEdge (now («by_target» .entry)) (now («by_home» .entry)) → (c : ℕ) → obeys n r c ≡ targetRow (now (t .entry)) (now (target .entry)) home runs (now (stock .entry)) n k c) ⌝ }
 {
     let i = wire::wide(target[k]);
@@ -340,7 +343,7 @@ fn add_targets(
     stock: &[u8],
     n: usize,
 ) -> usize
-    requires { ⌜ (count + n ≤ 105) × (440 ≤ length (now net)) × (tableRead (now t) ≡ good table) × (n ≤ length (now target)) × (n ≤ 20) × (table .nodes ≤ length (now «by_target»)) × (table .nodes ≤ length (now «by_home»)) × (table .nodes ≤ length (now stock)) ⌝ }
+    requires { ⌜ (count + n ≤ mostRules) × (netCells ≤ length (now net)) × (tableRead (now t) ≡ good table) × (n ≤ length (now target)) × (n ≤ limits .mostEnds) × (table .nodes ≤ length (now «by_target»)) × (table .nodes ≤ length (now «by_home»)) × (table .nodes ≤ length (now stock)) ⌝ }
     ensures { λ r. ⌜ (r ≤ count + n) × ((byEdge edge home runs : List ℕ) → Masks table edge (now (target .entry)) home n byEdge (now («by_target» .entry)) (now («by_home» .entry)) → AddedUpto (now (net .entry)) count (now (net .exit)) r n (targetRow (now (t .entry)) (now (target .entry)) home runs (now (stock .entry)) n) n) ⌝ }
 {
     let mut r = count;
@@ -363,7 +366,7 @@ fn barred_at_node(
     i: usize,
 ) -> u32
     requires { ⌜ (tableRead (now t) ≡ good table) × (i < table .nodes) × (table .nodes ≤ length (now «by_target»)) × (table .nodes ≤ length (now «by_home»)) × (table .nodes ≤ length (now runs)) ⌝ }
-    ensures { λ r. ⌜ ((byEdge edge target home stock : List ℕ) (n : ℕ) → Masks table edge target home n byEdge (now («by_target» .entry)) (now («by_home» .entry)) → Bars n r (nodeBar (now (t .entry)) target home (now (runs .entry)) stock n i)) ⌝ }
+    ensures { λ r. ⌜ ((byEdge edge target home stock : List ℕ) (n : ℕ) → Masks table edge target home n byEdge (now («by_target» .entry)) (now («by_home» .entry)) → BarredEnds n r (nodeBar (now (t .entry)) target home (now (runs .entry)) stock n i)) ⌝ }
 {
     let kind = table.kind(t, i);
     if kind == Table::ACTION {
@@ -386,7 +389,7 @@ fn barred_at_node(
 
 fn barred_at_nodes(t: &[u8], table: Table, by_target: &[u32], by_home: &[u32], runs: &[u8]) -> u32
     requires { ⌜ (tableRead (now t) ≡ good table) × (table .nodes ≤ length (now «by_target»)) × (table .nodes ≤ length (now «by_home»)) × (table .nodes ≤ length (now runs)) ⌝ }
-    ensures { λ r. ⌜ ((byEdge edge target home stock : List ℕ) (n : ℕ) → Masks table edge target home n byEdge (now («by_target» .entry)) (now («by_home» .entry)) → Bars n r (onEach (nodeBar (now (t .entry)) target home (now (runs .entry)) stock n) (below (table .nodes)))) ⌝ }
+    ensures { λ r. ⌜ ((byEdge edge target home stock : List ℕ) (n : ℕ) → Masks table edge target home n byEdge (now («by_target» .entry)) (now («by_home» .entry)) → BarredEnds n r (onEach (nodeBar (now (t .entry)) target home (now (runs .entry)) stock n) (below (table .nodes)))) ⌝ }
 {
     let most = table.nodes;
     let mut w: u32 = 0;
@@ -410,7 +413,7 @@ fn barred(
     runs: &[u8],
 ) -> u32
     requires { ⌜ (tableRead (now t) ≡ good table) × (table .edges ≤ length (now «by_edge»)) × (table .nodes ≤ length (now «by_target»)) × (table .nodes ≤ length (now «by_home»)) × (table .nodes ≤ length (now runs)) ⌝ }
-    ensures { λ r. ⌜ ((edge target home stock : List ℕ) (n : ℕ) → Masks table edge target home n (now («by_edge» .entry)) (now («by_target» .entry)) (now («by_home» .entry)) → Bars n r (barsKept (now (t .entry)) edge target home (now (runs .entry)) stock n)) ⌝ }
+    ensures { λ r. ⌜ ((edge target home stock : List ℕ) (n : ℕ) → Masks table edge target home n (now («by_edge» .entry)) (now («by_target» .entry)) (now («by_home» .entry)) → BarredEnds n r (barsKept (now (t .entry)) edge target home (now (runs .entry)) stock n)) ⌝ }
 {
     barred_at_edges(t, table, by_edge, by_target, by_home)
         | barred_at_nodes(t, table, by_target, by_home, runs)
@@ -425,8 +428,8 @@ pub fn add_destinations(
     ends: Ends,
     held: Held,
 ) -> usize
-    requires { ⌜ (count ≤ 64) × (440 ≤ length (now net)) × (tableRead (now t) ≡ good table) × EndsFull ends × HeldLengths held ⌝ }
-    ensures { λ r. ⌜ Added (now (net .entry)) count (now (net .exit)) r 41 (ends .count) (destinationTests (now (t .entry)) (ends .edge) (ends .target) (ends .home) (held .runs) (held .kept) (ends .count)) ⌝ }
+    requires { ⌜ (count ≤ limits .mostOffers) × (netCells ≤ length (now net)) × (tableRead (now t) ≡ good table) × EndsFull ends × HeldLengths held ⌝ }
+    ensures { λ r. ⌜ RulesAdded (now (net .entry)) count (now (net .exit)) r 41 (ends .count) (destinationTests (now (t .entry)) (ends .edge) (ends .target) (ends .home) (held .runs) (held .kept) (ends .count)) ⌝ }
 {
     let edge = ends.edge;
     let target = ends.target;
@@ -484,8 +487,8 @@ pub fn fill(
     ends: Ends,
     held: Held,
 ) -> usize
-    requires { ⌜ (440 ≤ length (now net)) × (tableRead (now t) ≡ good table) × Full offers × EndsFull ends × HeldLengths held ⌝ }
-    ensures { λ r. ⌜ (r ≤ 105) × (Roomy (now (t .entry)) (held .kept) → (c : ℕ) → holds (now (net .exit)) r (ends .count) c ≡ allowed (now (t .entry)) offers ends (held .runs) (held .kept) c) ⌝ }
+    requires { ⌜ (netCells ≤ length (now net)) × (tableRead (now t) ≡ good table) × Full offers × EndsFull ends × HeldLengths held ⌝ }
+    ensures { λ r. ⌜ (r ≤ mostRules) × (Roomy (now (t .entry)) (held .kept) → (c : ℕ) → holds (now (net .exit)) r (ends .count) c ≡ allowed (now (t .entry)) offers ends (held .runs) (held .kept) c) ⌝ }
 {
     let foes = ends.foes;
     let makers = ends.makers;

@@ -7,6 +7,7 @@ ghost use Prim.Native.Nat.{_+_, _^_, _≤_, _<_};
 ghost use lib.ListN.{length};
 ghost use Rattle.pick_bounds.specs.Bounds.{good};
 ghost use Rattle.pick_scout.specs.Scouting.{said, seen, Hinted, Scouted};
+ghost use Rattle.paper.specs.Limits.{limits};
 
 // What a search found, or ends to blame that could not be had, and how many states it visited.
 pub enum Visit {
@@ -80,7 +81,7 @@ fn next_of(ends: u32, view: u32) -> u32 {
 
 // A set between bounds where nothing is lacked: all that may be had, if that passes. A hint: the more ends it has, the fewer scouts follow.
 fn widest(net: &[u32], want: Wanted, b: Bounds) -> u32
-    requires { ⌜ 20 ≤ length (now net) ⌝ }
+    requires { ⌜ (limits .mostEnds) ≤ length (now net) ⌝ }
 {
     if pick_bounds::passes(net, want, b.may) {
         return b.may;
@@ -90,7 +91,7 @@ fn widest(net: &[u32], want: Wanted, b: Bounds) -> u32
 
 // Looks for some set that passes between settled bounds, trying at most so many ends. Only 'nothing' is sure.
 pub fn scout(net: &[u32], want: Wanted, left: usize, h: Hint, b: Bounds) -> Visit
-    requires { ⌜ (20 ≤ length (now net)) × (left ≤ 20) ⌝ }
+    requires { ⌜ (limits .mostEnds ≤ length (now net)) × (left ≤ limits .mostEnds) ⌝ }
     ensures { λ r. ⌜ Scouted (good (now (net .entry)) want) left b r ⌝ }
 {
     if pick_bounds::is_dead(b) {
@@ -145,7 +146,7 @@ fn is_in_view(h: Hint, b: Bounds) -> bool {
 
 // What is known before an end is tried, with which the bounds are b: a set in view spares the scout.
 pub fn survey(net: &[u32], want: Wanted, m: usize, h: Hint, b: Bounds) -> Visit
-    requires { ⌜ (20 ≤ length (now net)) × (m ≤ 20) ⌝ }
+    requires { ⌜ (limits .mostEnds ≤ length (now net)) × (m ≤ limits .mostEnds) ⌝ }
     ensures { λ r. ⌜ Scouted (good (now (net .entry)) want) m b r ⌝ }
 {
     if is_in_view(h, b) {

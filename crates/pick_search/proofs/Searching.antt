@@ -21,10 +21,10 @@ use Rattle.pick_scout.specs.declared.Visit.{Visit}
 use Rattle.pick_scout.specs.declared.Visit.the-variants.{Choice, Nothing}
 use Rattle.pick_scout.specs.Scouting.{said, seen, Scouted}
 use Rattle.pick_scout.proofs.Scouting.{two-more, halves, few-states}
-use Rattle.pick_search.specs.declared.Found.{Found}
-use Rattle.pick_search.specs.declared.Found.the-variants.{Choice as Found·Choice, Nothing as Found·Nothing}
+use Rattle.pick_search.specs.declared.ChoiceFound.{ChoiceFound}
+use Rattle.pick_search.specs.declared.ChoiceFound.the-variants.{Choice as ChoiceFound·Choice, Nothing as ChoiceFound·Nothing}
 use Rattle.pick_bounds.specs.Net.{Net, meets, passes}
-use Rattle.pick_search.specs.Searching.{Answers, Confined, Placed, Skipped, stepped, Visited}
+use Rattle.pick_search.specs.Searching.{Answers, Confined, AtPlace, Skipped, stepped, Visited}
 use Rattle.pick_bounds.specs.Bounds.{Between, Keeps, NoneIn}
 use Rattle.pick_bounds.proofs.Sets.{has-all, meets-one, meets-or, apart-power}
 use Rattle.pick_bounds.proofs.Pruning.{unmeeting}
@@ -71,7 +71,7 @@ leaving p = record { bit = p .bit * 2; taken = p .taken }
 pub stepped-leaving : (p : Place) → stepped p 0 ≡ leaving p
 stepped-leaving p = ap (λ (t : ℕ). record { bit = p .bit * 2; taken = t }) (add-zero (p .taken))
 
-module _ (m left : ℕ) (p : Place) (placed : Placed m left p) (some-open : 1 ≤ left) where
+module _ (m left : ℕ) (p : Place) (placed : AtPlace m left p) (some-open : 1 ≤ left) where
   next : m - (left - 1) ≡ suc (m - left)
   next = let f = placed .few in omega arith
 
@@ -81,14 +81,14 @@ module _ (m left : ℕ) (p : Place) (placed : Placed m left p) (some-open : 1 �
   pub small-weight : m ≤ 20 → p .bit ≤ 524288
   small-weight h = let e : m - left ≤ 19 = omega arith in omega (arith, placed .weight, pow-mono e)
 
-  pub placed-taking : Placed m (left - 1) (taking p)
+  pub placed-taking : AtPlace m (left - 1) (taking p)
   placed-taking = record {
     few = let f = placed .few in omega arith;
     weight = sym double;
     small = let s = placed .small in omega arith;
   }
 
-  pub placed-leaving : Placed m (left - 1) (leaving p)
+  pub placed-leaving : AtPlace m (left - 1) (leaving p)
   placed-leaving = record {
     few = let f = placed .few in omega arith;
     weight = sym double;
@@ -96,7 +96,7 @@ module _ (m left : ℕ) (p : Place) (placed : Placed m left p) (some-open : 1 �
   }
 
 -- ---- ends that are decided
-module _ (w : ℕ → Bool) (m left : ℕ) (p : Place) (b : Bounds) (placed : Placed m left p) (some-open : 1 ≤ left) (most : m ≤ 20) where
+module _ (w : ℕ → Bool) (m left : ℕ) (p : Place) (b : Bounds) (placed : AtPlace m left p) (some-open : 1 ≤ left) (most : m ≤ 20) where
   abbrev k : ℕ
   k = m - left
 
@@ -151,10 +151,10 @@ module _ (w : ℕ → Bool) (m left : ℕ) (p : Place) (b : Bounds) (placed : Pl
   there : (d : ℕ) → meets 32 d (p .bit) ≡ has d k
   there d = ap (meets 32 d) (placed .weight) ∙ meets-one 32 d k in-words
 
-  pub placed-decided : Placed m (left - 1) decided
+  pub placed-decided : AtPlace m (left - 1) decided
   placed-decided = by (meets 32 (b .may) (p .bit))
     where
-      by : (t : Bool) → Placed m (left - 1) (stepped p (cond t (p .bit) 0))
+      by : (t : Bool) → AtPlace m (left - 1) (stepped p (cond t (p .bit) 0))
       by true = placed-taking m left p placed some-open
       by false = rw (stepped-leaving p) (placed-leaving m left p placed some-open)
 
@@ -183,7 +183,7 @@ visited-skip w m left p b s v l f g = record {
 }
 
 -- ---- all ends that may be had are the first set
-pub may-first : (w : ℕ → Bool) (m left : ℕ) (p : Place) (b : Bounds) → Placed m left p → m ≤ 20 → b .may < 2 ^ m → b .may % p .bit ≡ p .taken → w (b .may) ≡ true
+pub may-first : (w : ℕ → Bool) (m left : ℕ) (p : Place) (b : Bounds) → AtPlace m left p → m ≤ 20 → b .may < 2 ^ m → b .may % p .bit ≡ p .taken → w (b .may) ≡ true
     → Confined w m (m - left) (p .taken) b → look w left (m - left) (p .taken) ≡ some (b .may)
 may-first w m left p b placed most l s e all = by (look w left (m - left) (p .taken)) (look-finds w left (m - left) (p .taken) small)
   where
@@ -222,7 +222,7 @@ pub record Past (w : ℕ → Bool) (m left : ℕ) (p : Place) (b : Bounds) (t : 
   pub most-seen : t < 2097152 * 2 ^ (left - 1 + 1)
 
 -- ---- ways to answer
-pub ends-dead : (w : ℕ → Bool) (m left : ℕ) (p : Place) (b : Bounds) (c : ℕ) → Placed m left p → ((x : ℕ) → Between b x → ⊥) → Visited w m left p b (Nothing c 1)
+pub ends-dead : (w : ℕ → Bool) (m left : ℕ) (p : Place) (b : Bounds) (c : ℕ) → AtPlace m left p → ((x : ℕ) → Between b x → ⊥) → Visited w m left p b (Nothing c 1)
 ends-dead w m left p b c placed h = record {
   finds = λ all.
       let z : (m - left) + left ≡ m = let f = placed .few in omega arith in
@@ -244,7 +244,7 @@ ends-leaf w m left p b z t e v same one = record {
     by true e = sym (rw z (look-leaf w _ (p .taken) (sym e)))
     by false e = sym (rw z (look-leaf-none w _ (p .taken) (sym e)))
 
-module _ (w : ℕ → Bool) (m left : ℕ) (p : Place) (b : Bounds) (placed : Placed m left p) (most : m ≤ 20) (some-open : 1 ≤ left) where
+module _ (w : ℕ → Bool) (m left : ℕ) (p : Place) (b : Bounds) (placed : AtPlace m left p) (most : m ≤ 20) (some-open : 1 ≤ left) where
   abbrev at : ℕ
   at = m - left
 
@@ -347,7 +347,7 @@ confined-start w m top e = λ x l s h. record {
   under = λ k i g. rw e (has-all m x k l g);
 }
 
-pub placed-start : (m : ℕ) → Placed m m (record { bit = 1; taken = 0 })
+pub placed-start : (m : ℕ) → AtPlace m m (record { bit = 1; taken = 0 })
 placed-start m = record {
   few = omega arith;
   weight = let e : m - m ≡ 0 = omega arith in rw e;
@@ -396,18 +396,18 @@ module _ (net : Net) (m : ℕ) (most : m ≤ 20) where
   looked-at : (o : Option ℕ) → o ≡ look (passes 32 net) m 0 0 → Finds (passes 32 net) m 0 0 o
   looked-at o e = subst (λ (p : Option ℕ). Finds (passes 32 net) m 0 0 p) (sym e) (look-first (passes 32 net) m)
 
-  pub answers-choice : (c : ℕ) → some c ≡ look (passes 32 net) m 0 0 → Answers net m (Found·Choice c)
+  pub answers-choice : (c : ℕ) → some c ≡ look (passes 32 net) m 0 0 → Answers net m (ChoiceFound·Choice c)
   unfolding Answers
   answers-choice c e = first-same (passes 32 net) (passes m net) m agree c (found-first (passes 32 net) m c (looked-at (some c) e))
 
-  pub answers-nothing : none ≡ look (passes 32 net) m 0 0 → Answers net m Found·Nothing
+  pub answers-nothing : none ≡ look (passes 32 net) m 0 0 → Answers net m ChoiceFound·Nothing
   unfolding Answers
   answers-nothing e = λ x l. sym (agree x l) ∙ looked-at none e x (rw (zero-add m) l) (mod-one x)
 
 -- the promise allows one answer
-pub answers-unique : (net : Net) (m : ℕ) (f g : Found) → Answers net m f → Answers net m g → f ≡ g
+pub answers-unique : (net : Net) (m : ℕ) (f g : ChoiceFound) → Answers net m f → Answers net m g → f ≡ g
 unfolding Answers
-answers-unique net m (Found·Choice c) (Found·Choice d) p q = ap Found·Choice (first-unique c d p q)
-answers-unique net m (Found·Choice c) Found·Nothing p q = never (passes m net c) (p .passes) (q c (p .is-set))
-answers-unique net m Found·Nothing (Found·Choice d) p q = never (passes m net d) (q .passes) (p d (q .is-set))
-answers-unique net m Found·Nothing Found·Nothing p q = refl
+answers-unique net m (ChoiceFound·Choice c) (ChoiceFound·Choice d) p q = ap ChoiceFound·Choice (first-unique c d p q)
+answers-unique net m (ChoiceFound·Choice c) ChoiceFound·Nothing p q = never (passes m net c) (p .passes) (q c (p .is-set))
+answers-unique net m ChoiceFound·Nothing (ChoiceFound·Choice d) p q = never (passes m net d) (q .passes) (p d (q .is-set))
+answers-unique net m ChoiceFound·Nothing ChoiceFound·Nothing p q = refl

@@ -10,14 +10,14 @@ use Rattle.pick_scout.specs.declared.Visit.{Visit}
 use Rattle.pick_scout.specs.Scouting.{said, seen}
 use Rattle.pick_bounds.specs.Net.{passes, Net}
 use Rattle.paper.specs.Choices.{FirstOf}
-use Rattle.pick_search.specs.declared.Found.{Found}
-use Rattle.pick_search.specs.declared.Found.the-variants.{Choice as Found·Choice, Nothing as Found·Nothing}
+use Rattle.pick_search.specs.declared.ChoiceFound.{ChoiceFound}
+use Rattle.pick_search.specs.declared.ChoiceFound.the-variants.{Choice as ChoiceFound·Choice, Nothing as ChoiceFound·Nothing}
 use Rattle.pick_bounds.specs.Bounds.{Between}
 
 -- ---- the first set of m ends that passes, or that none does
-unfoldable pub Answers : Net → ℕ → Found → Type 0
-Answers net m (Found·Choice c) = FirstOf (passes m net) m c
-Answers net m Found·Nothing = (x : ℕ) → x < 2 ^ m → passes m net x ≡ false
+unfoldable pub Answers : Net → ℕ → ChoiceFound → Type 0
+Answers net m (ChoiceFound·Choice c) = FirstOf (passes m net) m c
+Answers net m ChoiceFound·Nothing = (x : ℕ) → x < 2 ^ m → passes m net x ≡ false
 
 -- ---- step by step
 -- each set of m ends that passes and whose digits below k are those of `taken` lies between the bounds
@@ -25,7 +25,7 @@ abbrev pub Confined : (ℕ → Bool) → ℕ → ℕ → ℕ → Bounds → Type
 Confined passing m k taken b = (x : ℕ) → x < 2 ^ m → x % 2 ^ k ≡ taken → passing x ≡ true → Between b x
 
 -- of m ends the last `left` are open, `bit` is the weight of the first of these, and `taken` holds the choice for those before it
-pub record Placed (m left : ℕ) (p : Place) : Type 0 where
+pub record AtPlace (m left : ℕ) (p : Place) : Type 0 where
   pub few : left ≤ m
   pub weight : p .bit ≡ 2 ^ (m - left)
   pub small : p .taken < p .bit

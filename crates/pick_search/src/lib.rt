@@ -15,10 +15,11 @@ ghost use Rattle.pick_bounds.specs.Net.{meets, netOf};
 ghost use Rattle.pick_bounds.specs.Bounds.{good, Between};
 ghost use Rattle.pick_twins.specs.Twins.{Lacking};
 ghost use Rattle.pick_scout.specs.Scouting.{said, seen};
-ghost use Rattle.pick_search.specs.Searching.{Answers, Placed, Skipped, stepped, Visited};
+ghost use Rattle.pick_search.specs.Searching.{Answers, AtPlace, Skipped, stepped, Visited};
+ghost use Rattle.paper.specs.Limits.{limits};
 
 // The first set that passes, or that none does.
-pub enum Found {
+pub enum ChoiceFound {
     Choice(u32),
     Nothing,
 }
@@ -69,8 +70,8 @@ fn decide(p: Place, b: Bounds) -> Place
 
 // The first end that is open between the bounds: those before it are taken if they must be, and left if they may not be had.
 fn skip(m: usize, left: usize, p: Place, b: Bounds) -> Spot
-    requires { ⌜ (m ≤ 20) × Placed m left p ⌝ }
-    ensures { λ r. ⌜ (r .left ≤ left) × Placed m (r .left) (r .place) × ((passing : ℕ → Bool) → Skipped passing m left p b r) ⌝ }
+    requires { ⌜ (m ≤ limits .mostEnds) × AtPlace m left p ⌝ }
+    ensures { λ r. ⌜ (r .left ≤ left) × AtPlace m (r .left) (r .place) × ((passing : ℕ → Bool) → Skipped passing m left p b r) ⌝ }
 {
     let mut rest = left;
     let mut place = p;
@@ -102,7 +103,7 @@ fn answer(passes: bool, c: u32, states: usize) -> Visit
 
 // Whether all ends that may be had pass together, and begin with those taken: then no other set comes before them.
 fn is_first(net: &[u32], want: Wanted, m: usize, p: Place, b: Bounds) -> bool
-    requires { ⌜ (20 ≤ length (now net)) × (m ≤ 20) × (1 ≤ p .bit) ⌝ }
+    requires { ⌜ (limits .mostEnds ≤ length (now net)) × (m ≤ limits .mostEnds) × (1 ≤ p .bit) ⌝ }
     ensures { λ r. ⌜ (r ≡ true → (b .may < 2 ^ m) × (b .may % p .bit ≡ p .taken) × (good (now (net .entry)) want (b .may) ≡ true)) ⌝ }
 {
     if b.may % p.bit != p.taken {
@@ -116,7 +117,7 @@ fn is_first(net: &[u32], want: Wanted, m: usize, p: Place, b: Bounds) -> bool
 
 // Ends that are gone with end k, with which nothing was found by a survey: it, and those that can change places with it.
 fn gone(net: &[u32], want: Wanted, k: usize, end: u32, v: Visit, b: Bounds) -> u32
-    requires { ⌜ 20 ≤ length (now net) ⌝ }
+    requires { ⌜ (limits .mostEnds) ≤ length (now net) ⌝ }
     ensures { λ r. ⌜ (end ≡ 2 ^ k → (said v ≡ none → Lacking (good (now (net .entry)) want) b k) → (x : ℕ) → good (now (net .entry)) want x ≡ true → Between b x → has x k ≡ false → meets 32 x r ≡ false) ⌝ }
 {
     match v {
@@ -127,7 +128,7 @@ fn gone(net: &[u32], want: Wanted, k: usize, end: u32, v: Visit, b: Bounds) -> u
 
 // The first set that passes among those that have `p.taken` before the open ends, if those that pass lie between the bounds.
 fn search(net: &[u32], want: Wanted, m: usize, left: usize, p: Place, b: Bounds, h: Hint) -> Visit
-    requires { ⌜ (20 ≤ length (now net)) × (m ≤ 20) × Placed m left p ⌝ }
+    requires { ⌜ (limits .mostEnds ≤ length (now net)) × (m ≤ limits .mostEnds) × AtPlace m left p ⌝ }
     ensures { λ r. ⌜ Visited (good (now (net .entry)) want) m left p b r ⌝ }
 {
     if pick_bounds::is_dead(b) {
@@ -166,7 +167,7 @@ fn search(net: &[u32], want: Wanted, m: usize, left: usize, p: Place, b: Bounds,
 
 // The search over all sets of m ends.
 fn search_all(net: &[u32], want: Wanted, m: usize) -> Visit
-    requires { ⌜ (20 ≤ length (now net)) × (m ≤ 20) ⌝ }
+    requires { ⌜ (limits .mostEnds ≤ length (now net)) × (m ≤ limits .mostEnds) ⌝ }
     ensures { λ r. ⌜ (said r ≡ look (good (now (net .entry)) want) m 0 0) × ((1 ≤ seen r) × (seen r < 2 ^ (m + 22))) ⌝ }
 {
     let p = Place { bit: 1, taken: 0 };
@@ -191,19 +192,19 @@ fn search_all(net: &[u32], want: Wanted, m: usize) -> Visit
 }
 
 // The first set of m ends that passes the net and holds what is wanted.
-pub fn first(net: &[u32], want: Wanted, m: usize) -> Found
-    requires { ⌜ (20 ≤ length (now net)) × (m ≤ 20) ⌝ }
+pub fn first(net: &[u32], want: Wanted, m: usize) -> ChoiceFound
+    requires { ⌜ (limits .mostEnds ≤ length (now net)) × (m ≤ limits .mostEnds) ⌝ }
     ensures { λ r. ⌜ Answers (netOf (now (net .entry)) want) m r ⌝ }
 {
     match search_all(net, want, m) {
-        Visit::Choice(c, _) => Found::Choice(c),
-        Visit::Nothing(_, _) => Found::Nothing,
+        Visit::Choice(c, _) => ChoiceFound::Choice(c),
+        Visit::Nothing(_, _) => ChoiceFound::Nothing,
     }
 }
 
 // How many states that search visits: what a test can hold down.
 pub fn states(net: &[u32], want: Wanted, m: usize) -> usize
-    requires { ⌜ (20 ≤ length (now net)) × (m ≤ 20) ⌝ }
+    requires { ⌜ (limits .mostEnds ≤ length (now net)) × (m ≤ limits .mostEnds) ⌝ }
     ensures { λ r. ⌜ (1 ≤ r) × (r < 2 ^ (m + 22)) ⌝ }
 {
     pick_scout::states_of(search_all(net, want, m))

@@ -14,7 +14,7 @@ use Rattle.paper.proofs.Counts.{count-below, count-below-same}
 use Rattle.pick_bounds.specs.declared.Wanted.{Wanted}
 use Rattle.pick_bounds.specs.declared.Rule.{Rule}
 use Rattle.pick_bounds.specs.declared.Bounds.{Bounds}
-use Rattle.pick_bounds.specs.Net.{inBoth, held, meets, obeys, clash, ruleAt}
+use Rattle.pick_bounds.specs.Net.{inBoth, held, meets, obeys, clashRule, ruleAt}
 use Rattle.pick_bounds.specs.Bounds.{good, Between}
 use Rattle.pick_bounds.proofs.Sets.{has-or, has-without, has-power, has-power-other, meets-held, meets-at}
 use Rattle.pick_bounds.proofs.Rules.{passes-all, passes-wanted, obeyed, rivals-obeyed}
@@ -117,7 +117,7 @@ module _ (x j k : ℕ) (hj : has x j ≡ true) (hk : has x k ≡ false) where
 
 -- ---- a net
 -- a set with no rivals of an end, and one that passes
-clash-free : (i rivals x : ℕ) → i < 32 → (has x i ≡ true → (e : ℕ) → e < 32 → has x e ≡ true → has rivals e ≡ true → ⊥) → obeys 32 (clash i rivals) x ≡ true
+clash-free : (i rivals x : ℕ) → i < 32 → (has x i ≡ true → (e : ℕ) → e < 32 → has x e ≡ true → has rivals e ≡ true → ⊥) → obeys 32 (clashRule i rivals) x ≡ true
 clash-free i rivals x l h = clash-obeyed 32 x i rivals l ∙ by (has x i) (λ a. unmeeting x rivals (h a))
   where
     by : (a : Bool) → (a ≡ true → meets 32 x rivals ≡ false) → not (a && meets 32 x rivals) ≡ true

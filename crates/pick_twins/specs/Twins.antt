@@ -4,6 +4,7 @@ use mathlib.Core.Path.{_≡_}
 use mathlib.Core.Bool.{Bool, true}
 use mathlib.Core.List.{List}
 use Rattle.paper.specs.Lists.{at, has}
+use Rattle.paper.specs.Limits.{limits}
 use Rattle.pick_bounds.specs.declared.Bounds.{Bounds}
 use Rattle.pick_bounds.specs.Net.{size, ruleAt}
 use Rattle.pick_bounds.specs.Bounds.{Between}
@@ -14,11 +15,11 @@ AlikeAll net k j = (i : ℕ) → i < size net → (has (ruleAt net i .when) j �
 
 -- each other end has both or neither for rivals
 abbrev pub AlikeRivals : List ℕ → ℕ → ℕ → Type 0
-AlikeRivals net k j = (i : ℕ) → i < 20 → (i ≡ k → ⊥) → (j ≡ i → ⊥) → has (at net i) j ≡ has (at net i) k
+AlikeRivals net k j = (i : ℕ) → i < limits .mostEnds → (i ≡ k → ⊥) → (j ≡ i → ⊥) → has (at net i) j ≡ has (at net i) k
 
 -- the rivals of end k are rivals of end j too, j aside
 abbrev pub SharesRivals : List ℕ → ℕ → ℕ → Type 0
-SharesRivals net k j = (j < 20) × ((i : ℕ) → has (at net k) i ≡ true → (i ≡ j → ⊥) → has (at net j) i ≡ true)
+SharesRivals net k j = (j < limits .mostEnds) × ((i : ℕ) → has (at net k) i ≡ true → (i ≡ j → ⊥) → has (at net j) i ≡ true)
 
 -- no set that passes and lies between the bounds has end k
 abbrev pub Lacking : (ℕ → Bool) → Bounds → ℕ → Type 0

@@ -10,6 +10,7 @@ ghost use Rattle.paper.specs.Lists.{has};
 ghost use Rattle.pick_bounds.specs.Net.{size, ruleAt};
 ghost use Rattle.pick_bounds.specs.Bounds.{good};
 ghost use Rattle.pick_twins.specs.Twins.{AlikeAll, AlikeRivals, SharesRivals, Lacking};
+ghost use Rattle.paper.specs.Limits.{limits};
 
 // Of these ends those that a set doesn't tell from end k.
 fn alike(c: u32, k: usize, ends: u32) -> u32
@@ -24,7 +25,7 @@ fn alike(c: u32, k: usize, ends: u32) -> u32
 
 // Of these ends those that no rule tells from end k.
 fn alike_in_rules(net: &[u32], k: usize, ends: u32) -> u32
-    requires { ⌜ (20 ≤ length (now net)) × (k < 32) ⌝ }
+    requires { ⌜ (limits .mostEnds ≤ length (now net)) × (k < 32) ⌝ }
     ensures { λ r. ⌜ ((j : ℕ) → has r j ≡ true → (has ends j ≡ true) × AlikeAll (now (net .entry)) k j) ⌝ }
 {
     let mut same = ends;
@@ -51,7 +52,7 @@ fn alike_but(rivals: u32, k: usize, i: usize, ends: u32) -> u32
 
 // Of these ends those that no other end's rivals tell from end k.
 fn alike_in_rivals(net: &[u32], k: usize, ends: u32) -> u32
-    requires { ⌜ (20 ≤ length (now net)) × (k < 32) ⌝ }
+    requires { ⌜ (limits .mostEnds ≤ length (now net)) × (k < 32) ⌝ }
     ensures { λ r. ⌜ ((j : ℕ) → has r j ≡ true → (has ends j ≡ true) × AlikeRivals (now (net .entry)) k j) ⌝ }
 {
     let mut same = ends;
@@ -65,7 +66,7 @@ fn alike_in_rivals(net: &[u32], k: usize, ends: u32) -> u32
 
 // Of these ends those that have all rivals of end k, themselves aside.
 fn with_rivals(net: &[u32], k: usize, ends: u32) -> u32
-    requires { ⌜ (20 ≤ length (now net)) × (k < 20) ⌝ }
+    requires { ⌜ (limits .mostEnds ≤ length (now net)) × (k < limits .mostEnds) ⌝ }
     ensures { λ r. ⌜ ((j : ℕ) → has r j ≡ true → (has ends j ≡ true) × SharesRivals (now (net .entry)) k j) ⌝ }
 {
     let mut kept: u32 = 0;
@@ -80,7 +81,7 @@ fn with_rivals(net: &[u32], k: usize, ends: u32) -> u32
 
 // End j alone, if it has all rivals of end k, itself aside, and nothing if not.
 fn shared(net: &[u32], k: usize, j: usize) -> u32
-    requires { ⌜ (20 ≤ length (now net)) × (k < 20) × (j < 32) ⌝ }
+    requires { ⌜ (limits .mostEnds ≤ length (now net)) × (k < limits .mostEnds) × (j < 32) ⌝ }
     ensures { λ r. ⌜ ((i : ℕ) → has r i ≡ true → (i ≡ j) × SharesRivals (now (net .entry)) k i) ⌝ }
 {
     if pick_bounds::ENDS <= j {
@@ -95,7 +96,7 @@ fn shared(net: &[u32], k: usize, j: usize) -> u32
 
 // Open ends that can change places with end k, if it may be had.
 pub fn twins(net: &[u32], want: Wanted, k: usize, b: Bounds) -> u32
-    requires { ⌜ 20 ≤ length (now net) ⌝ }
+    requires { ⌜ (limits .mostEnds) ≤ length (now net) ⌝ }
     ensures { λ r. ⌜ (Lacking (good (now (net .entry)) want) b k → (j : ℕ) → has r j ≡ true → Lacking (good (now (net .entry)) want) b j) ⌝ }
 {
     if pick_bounds::ENDS <= k {

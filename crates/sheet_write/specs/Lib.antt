@@ -1,2 +1,2 @@
--- The sheet's bytes, from lent columns.
+-- The sheet's bytes, from the lent rows and paths.
 pub mod Listing

@@ -1,49 +1,58 @@
 // Writing a sheet: its size first, then its bytes, front to back.
-// Ends and paths stand in lent columns, which hold what is read of them (`Measured`, `Shows`).
-use offers::Offers;
+// Rows, ends and paths stand in lent slices, which hold what is read of them (`Measured`, `Shows`).
+use offers::MOST_PATHS;
+use offers::has_of;
+use offers::last_of;
+use offers::paths_of;
+use offers::value_of;
+use table::Table;
+use wire::wide;
 ghost use mathlib.Core.Path.{_≡_};
-ghost use mathlib.Core.List.{[], _∷_, _++_};
-ghost use Prim.Native.Nat.{ℕ, _+_, _*_, _-_, _≤_, _<_};
+ghost use mathlib.Core.List.{_++_};
+ghost use Prim.Native.Nat.{ℕ, _+_, _≤_, _<_};
 ghost use lib.ListN.{length, drop};
 ghost use lib.Seq.{sets};
 ghost use Rattle.paper.specs.Lists.{at, below, gather};
+ghost use Rattle.paper.specs.Limits.{limits};
 ghost use Rattle.paper.specs.Answers.{good};
 ghost use Rattle.paper.specs.Operations.{inRoom, Reply};
 ghost use Rattle.wire.specs.Totals.{total};
-ghost use Rattle.sheet_write.specs.Listing.{valueShown, pathShown, pathOf, pathTakes, endTakes, sheetTakes, endShown, sheetShown, Measured, Shows};
+ghost use Rattle.offers.specs.Rows.{rowCells};
+ghost use Rattle.ends_paths.specs.Blocks.{mostBlocks, blockCells, firstBlock, blockStart};
+ghost use Rattle.sheet_write.specs.Listing.{valueShown, frontShown, pathShown, pathOf, pathTakes, endTakes, mostEndSize, sheetTakes, mostSheetSize, endShown, sheetShown, Measured, Shows};
 
 // What the path in a block takes.
 fn path_size(lens: &[u8], q: usize) -> usize
     requires { ⌜ q < length (now lens) ⌝ }
     ensures { λ r. ⌜ (r ≡ 1 + at (now (lens .entry)) q) × (r ≤ 256) ⌝ }
 {
-    1 + wire::wide(lens[q])
+    1 + wide(lens[q])
 }
 
 // What end k takes.
-fn end_size(many: &[u8], rows: &[u8], order: &[u8], lens: &[u8], n: usize, k: usize) -> usize
-    requires { ⌜ Measured (now many) (now rows) (now order) (now lens) n × (k < n) ⌝ }
-    ensures { λ r. ⌜ (r ≡ endTakes (now (many .entry)) (now (rows .entry)) (now (order .entry)) (now (lens .entry)) k) × (r ≤ 2055) ⌝ }
+fn end_size(rows: &[u64], ends: &[u8], order: &[u8], lens: &[u8], n: usize, k: usize) -> usize
+    requires { ⌜ Measured (now rows) (now ends) (now order) (now lens) n × (k < n) ⌝ }
+    ensures { λ r. ⌜ (r ≡ endTakes (now (rows .entry)) (now (ends .entry)) (now (order .entry)) (now (lens .entry)) k) × (r ≤ mostEndSize) ⌝ }
 {
-    let m = wire::wide(many[wire::wide(rows[k])]);
+    let m = paths_of(rows, wide(ends[k]));
     let mut taken: usize = 7;
     let mut j: usize = 0;
     while j < m {
-        taken += path_size(lens, wire::wide(order[8 * k + j]));
+        taken += path_size(lens, wide(order[MOST_PATHS * k + j]));
         j += 1;
     }
     taken
 }
 
 // What the sheet of n ends takes.
-fn size(many: &[u8], rows: &[u8], order: &[u8], lens: &[u8], n: usize) -> usize
-    requires { ⌜ Measured (now many) (now rows) (now order) (now lens) n ⌝ }
-    ensures { λ r. ⌜ (r ≡ sheetTakes (now (many .entry)) (now (rows .entry)) (now (order .entry)) (now (lens .entry)) n) × (4 ≤ r) × (r ≤ 41104) ⌝ }
+fn size(rows: &[u64], ends: &[u8], order: &[u8], lens: &[u8], n: usize) -> usize
+    requires { ⌜ Measured (now rows) (now ends) (now order) (now lens) n ⌝ }
+    ensures { λ r. ⌜ (r ≡ sheetTakes (now (rows .entry)) (now (ends .entry)) (now (order .entry)) (now (lens .entry)) n) × (4 ≤ r) × (r ≤ mostSheetSize) ⌝ }
 {
     let mut taken: usize = 4;
     let mut k: usize = 0;
     while k < n {
-        taken += end_size(many, rows, order, lens, n, k);
+        taken += end_size(rows, ends, order, lens, n, k);
         k += 1;
     }
     taken
@@ -63,24 +72,30 @@ fn write_value(has: u8, value: u32, out: &mut [u8], to: usize)
     wire::write32(out, to + 1, value);
 }
 
-// What stands before the paths of an end: its last edge, its value, and the number of its paths.
-fn write_front(edge: u8, has: u8, value: u32, many: u8, out: &mut [u8], to: usize)
-    requires { ⌜ to + 7 ≤ length (now out) ⌝ }
-    ensures { λ _. ⌜ now (out .exit) ≡ sets (now (out .entry)) to (edge ∷ valueShown has value ++ (many ∷ [])) ⌝ }
+// What stands before the paths of row i: its last edge, its value, and the number of its paths.
+fn write_front(rows: &[u64], i: usize, out: &mut [u8], to: usize)
+    requires { ⌜ ((i < limits .mostOffers) × (rowCells ≤ length (now rows))) × (to + 7 ≤ length (now out)) ⌝ }
+    ensures { λ _. ⌜ now (out .exit) ≡ sets (now (out .entry)) to (frontShown (now (rows .entry)) i) ⌝ }
 {
-    out[to] = edge;
-    write_value(has, value, out, to + 1);
-    out[to + 6] = many;
+    out[to] = last_of(rows, i);
+    write_value(has_of(rows, i), value_of(rows, i), out, to + 1);
+    out[to + 6] = paths_of(rows, i) as u8;
 }
 
 // The path in block q: its length and edges; and where the bytes after it start.
 fn write_path(lens: &[u8], cells: &[u8], q: usize, out: &mut [u8], to: usize) -> usize
-    requires { ⌜ ((q < length (now lens)) × (at (now lens) q ≤ 16)) × (16 * q + 16 ≤ length (now cells)) × (to + (1 + at (now lens) q) ≤ length (now out)) ⌝ }
+    requires { ⌜ ((q < length (now lens)) × (at (now lens) q ≤ limits .longestPath)) × (blockStart q + limits .longestPath ≤ length (now cells)) × (to + (1 + at (now lens) q) ≤ length (now out)) ⌝ }
     ensures { λ r. ⌜ (r ≡ to + (1 + at (now (lens .entry)) q)) × (now (out .exit) ≡ sets (now (out .entry)) to (pathShown (now (lens .entry)) (now (cells .entry)) q)) ⌝ }
 {
-    let n = wire::wide(lens[q]);
+    let n = wide(lens[q]);
     out[to] = lens[q];
-    wire::copy(cells, 16 * q + (16 - n), n, out, to + 1);
+    wire::copy(
+        cells,
+        Table::LONGEST_PATH * q + (Table::LONGEST_PATH - n),
+        n,
+        out,
+        to + 1,
+    );
     to + 1 + n
 }
 
@@ -94,13 +109,13 @@ fn write_paths(
     out: &mut [u8],
     start: usize,
 ) -> usize
-    requires { ⌜ ((8 * k + m ≤ length (now order)) × (m ≤ 8)) × ((j : ℕ) → j < m → at (now order) (8 * k + j) < 160) × ((j : ℕ) → j < m → at (now lens) (at (now order) (8 * k + j)) ≤ 16) × (160 ≤ length (now lens)) × (2560 ≤ length (now cells)) × (start + total (pathTakes (now order) (now lens) k) m ≤ length (now out)) ⌝ }
+    requires { ⌜ ((firstBlock k + m ≤ length (now order)) × (m ≤ limits .mostPaths)) × ((j : ℕ) → j < m → at (now order) (firstBlock k + j) < mostBlocks) × ((j : ℕ) → j < m → at (now lens) (at (now order) (firstBlock k + j)) ≤ limits .longestPath) × (mostBlocks ≤ length (now lens)) × (blockCells ≤ length (now cells)) × (start + total (pathTakes (now order) (now lens) k) m ≤ length (now out)) ⌝ }
     ensures { λ r. ⌜ (r ≡ start + total (pathTakes (now (order .entry)) (now (lens .entry)) k) m) × (now (out .exit) ≡ sets (now (out .entry)) start (gather (pathOf (now (order .entry)) (now (lens .entry)) (now (cells .entry)) k) (below m))) ⌝ }
 {
     let mut to = start;
     let mut j: usize = 0;
     while j < m {
-        to = write_path(lens, cells, wire::wide(order[8 * k + j]), out, to);
+        to = write_path(lens, cells, wide(order[MOST_PATHS * k + j]), out, to);
         j += 1;
     }
     to
@@ -108,11 +123,8 @@ fn write_paths(
 
 // End k.
 fn write_end(
-    last: &[u8],
-    has: &[u8],
-    value: &[u32],
-    many: &[u8],
-    rows: &[u8],
+    rows: &[u64],
+    ends: &[u8],
     order: &[u8],
     lens: &[u8],
     cells: &[u8],
@@ -121,58 +133,39 @@ fn write_end(
     out: &mut [u8],
     to: usize,
 ) -> usize
-    requires { ⌜ Shows (now last) (now has) (now value) (now many) (now rows) (now order) (now lens) (now cells) n × (k < n) × (to + endTakes (now many) (now rows) (now order) (now lens) k ≤ length (now out)) ⌝ }
-    ensures { λ r. ⌜ (r ≡ to + endTakes (now (many .entry)) (now (rows .entry)) (now (order .entry)) (now (lens .entry)) k) × (now (out .exit) ≡ sets (now (out .entry)) to (endShown (now (last .entry)) (now (has .entry)) (now (value .entry)) (now (many .entry)) (now (rows .entry)) (now (order .entry)) (now (lens .entry)) (now (cells .entry)) k)) ⌝ }
+    requires { ⌜ Shows (now rows) (now ends) (now order) (now lens) (now cells) n × (k < n) × (to + endTakes (now rows) (now ends) (now order) (now lens) k ≤ length (now out)) ⌝ }
+    ensures { λ r. ⌜ (r ≡ to + endTakes (now (rows .entry)) (now (ends .entry)) (now (order .entry)) (now (lens .entry)) k) × (now (out .exit) ≡ sets (now (out .entry)) to (endShown (now (rows .entry)) (now (ends .entry)) (now (order .entry)) (now (lens .entry)) (now (cells .entry)) k)) ⌝ }
 {
-    let i = wire::wide(rows[k]);
-    write_front(last[i], has[i], value[i], many[i], out, to);
-    write_paths(order, lens, cells, k, wire::wide(many[i]), out, to + 7)
+    let i = wide(ends[k]);
+    write_front(rows, i, out, to);
+    write_paths(order, lens, cells, k, paths_of(rows, i), out, to + 7)
 }
 
 // Every end, behind the head.
 fn write_ends(
-    last: &[u8],
-    has: &[u8],
-    value: &[u32],
-    many: &[u8],
-    rows: &[u8],
+    rows: &[u64],
+    ends: &[u8],
     order: &[u8],
     lens: &[u8],
     cells: &[u8],
     n: usize,
     out: &mut [u8],
 )
-    requires { ⌜ Shows (now last) (now has) (now value) (now many) (now rows) (now order) (now lens) (now cells) n × (sheetTakes (now many) (now rows) (now order) (now lens) n ≤ length (now out)) ⌝ }
-    ensures { λ _. ⌜ now (out .exit) ≡ sets (now (out .entry)) 4 (gather (endShown (now (last .entry)) (now (has .entry)) (now (value .entry)) (now (many .entry)) (now (rows .entry)) (now (order .entry)) (now (lens .entry)) (now (cells .entry))) (below n)) ⌝ }
+    requires { ⌜ Shows (now rows) (now ends) (now order) (now lens) (now cells) n × (sheetTakes (now rows) (now ends) (now order) (now lens) n ≤ length (now out)) ⌝ }
+    ensures { λ _. ⌜ now (out .exit) ≡ sets (now (out .entry)) 4 (gather (endShown (now (rows .entry)) (now (ends .entry)) (now (order .entry)) (now (lens .entry)) (now (cells .entry))) (below n)) ⌝ }
 {
     let mut to: usize = 4;
     let mut k: usize = 0;
     while k < n {
-        to = write_end(
-            last,
-            has,
-            value,
-            many,
-            rows,
-            order,
-            lens,
-            cells,
-            n,
-            k,
-            out,
-            to,
-        );
+        to = write_end(rows, ends, order, lens, cells, n, k, out, to);
         k += 1;
     }
 }
 
 // The sheet of n ends, which takes `len` bytes, at the front of a slice.
 fn write(
-    last: &[u8],
-    has: &[u8],
-    value: &[u32],
-    many: &[u8],
-    rows: &[u8],
+    rows: &[u64],
+    ends: &[u8],
     order: &[u8],
     lens: &[u8],
     cells: &[u8],
@@ -180,16 +173,16 @@ fn write(
     len: usize,
     out: &mut [u8],
 )
-    requires { ⌜ Shows (now last) (now has) (now value) (now many) (now rows) (now order) (now lens) (now cells) n × (len ≡ sheetTakes (now many) (now rows) (now order) (now lens) n) × (4 ≤ len) × (len ≤ length (now out)) ⌝ }
-    ensures { λ _. ⌜ now (out .exit) ≡ sheetShown (now (last .entry)) (now (has .entry)) (now (value .entry)) (now (many .entry)) (now (rows .entry)) (now (order .entry)) (now (lens .entry)) (now (cells .entry)) n ++ drop len (now (out .entry)) ⌝ }
+    requires { ⌜ Shows (now rows) (now ends) (now order) (now lens) (now cells) n × (len ≡ sheetTakes (now rows) (now ends) (now order) (now lens) n) × (4 ≤ len) × (len ≤ length (now out)) ⌝ }
+    ensures { λ _. ⌜ now (out .exit) ≡ sheetShown (now (rows .entry)) (now (ends .entry)) (now (order .entry)) (now (lens .entry)) (now (cells .entry)) n ++ drop len (now (out .entry)) ⌝ }
 {
     wire::write_head(len, n as u8, out);
-    write_ends(last, has, value, many, rows, order, lens, cells, n, out);
+    write_ends(rows, ends, order, lens, cells, n, out);
 }
 
-// The sheet that the columns show, if the room is enough (row 17).
+// The sheet that the slices show, if the room is enough (row 17).
 pub fn show(
-    offers: Offers,
+    rows: &[u64],
     ends: &[u8],
     order: &[u8],
     lens: &[u8],
@@ -197,29 +190,13 @@ pub fn show(
     n: usize,
     out: &mut [u8],
 ) -> u64
-    requires { ⌜ Shows (offers .last) (offers .has) (offers .value) (offers .paths) (now ends) (now order) (now lens) (now cells) n ⌝ }
-    ensures { λ r. ⌜ Reply (inRoom (length (now (out .entry))) (good (sheetShown (offers .last) (offers .has) (offers .value) (offers .paths) (now (ends .entry)) (now (order .entry)) (now (lens .entry)) (now (cells .entry)) n))) r (now (out .entry)) (now (out .exit)) ⌝ }
+    requires { ⌜ Shows (now rows) (now ends) (now order) (now lens) (now cells) n ⌝ }
+    ensures { λ r. ⌜ Reply (inRoom (length (now (out .entry))) (good (sheetShown (now (rows .entry)) (now (ends .entry)) (now (order .entry)) (now (lens .entry)) (now (cells .entry)) n))) r (now (out .entry)) (now (out .exit)) ⌝ }
 {
-    let many = offers.paths;
-    let len = size(&many, ends, order, lens, n);
+    let len = size(rows, ends, order, lens, n);
     if out.len() < len {
         return wire::pack(17, 0, 0);
     }
-    let last = offers.last;
-    let has = offers.has;
-    let value = offers.value;
-    write(
-        &last,
-        &has,
-        &value,
-        &many,
-        ends,
-        order,
-        lens,
-        cells,
-        n,
-        len,
-        out,
-    );
+    write(rows, ends, order, lens, cells, n, len, out);
     wire::pack(0, 0, len)
 }

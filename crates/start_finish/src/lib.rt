@@ -46,7 +46,7 @@ fn deliver(
 }
 
 // What asking for a running action answers: nothing but that it runs, or the refusal's number and its place.
-pub enum RunningAnswer {
+enum RunningAnswer {
     Good,
     Refused(u8, u8),
 }

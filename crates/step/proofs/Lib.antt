@@ -1,2 +1,3 @@
--- Laws of a step, row by row.
+-- Laws of a step, row by row, and of its end.
 pub mod Laws
+pub mod Closing

@@ -9,55 +9,14 @@ use table::Table;
 ghost use mathlib.Core.Path.{_≡_};
 ghost use lib.ListN.{length};
 ghost use Rattle.paper.specs.Answers.{good};
-ghost use Rattle.paper.specs.Marking.{encode};
-ghost use Rattle.paper.specs.Choices.{next};
 ghost use Rattle.paper.specs.Operations.{Reply, inRoom};
 ghost use Rattle.table.specs.Reading.{tableRead};
 ghost use Rattle.offers.specs.Struct.{Full};
 ghost use Rattle.ends_masks.specs.Seating.{EndsFull};
 ghost use Rattle.marking_held.specs.MarkingHeld.{HeldLengths};
-ghost use Rattle.step.specs.Stepping.{settled, chosen, Standing};
+ghost use Rattle.step.specs.Stepping.{chosen, Standing};
 
-// The choice c is taken, and the marking then is the reply.
-fn moved(
-    t: &[u8],
-    table: Table,
-    b: &[u8],
-    offers: Offers,
-    ends: Ends,
-    c: u32,
-    held: Held,
-    out: &mut [u8],
-) -> u64
-    requires { ⌜ (tableRead (now t) ≡ good table) × Full offers × EndsFull ends × HeldLengths held × Standing (now t) (now b) offers ends held ⌝ }
-    ensures { λ r. ⌜ ((s : Standing (now (t .entry)) (now (b .entry)) offers ends held) → Reply (inRoom (length (now (out .entry))) (good (encode (now (t .entry)) (next (s .on) c)))) r (now (out .entry)) (now (out .exit))) ⌝ }
-{
-    let mut extra = [0u8; step_gain::ROOM];
-    let then = step_next::advance(t, table, offers, ends, c, held, &mut extra);
-    marking_write::reply(t, table, then.ended, b, &extra, then.held, out)
-}
-
-// The choice c is judged (rows 10 to 12), and taken if no rule refuses it.
-fn settle(
-    t: &[u8],
-    table: Table,
-    b: &[u8],
-    offers: Offers,
-    ends: Ends,
-    c: u32,
-    held: Held,
-    out: &mut [u8],
-) -> u64
-    requires { ⌜ (tableRead (now t) ≡ good table) × Full offers × EndsFull ends × HeldLengths held × Standing (now t) (now b) offers ends held ⌝ }
-    ensures { λ r. ⌜ ((s : Standing (now (t .entry)) (now (b .entry)) offers ends held) → Reply (inRoom (length (now (out .entry))) (settled (now (t .entry)) (s .on) c)) r (now (out .entry)) (now (out .exit))) ⌝ }
-{
-    if let Judged::Refused(number, place) = choice_judge::judge(t, table, offers, ends, held, c) {
-        return wire::pack(number, place, 0);
-    }
-    moved(t, table, b, offers, ends, c, held, out)
-}
-
-// The choice is read (row 9), judged and taken.
+// The choice is read (row 9), judged (rows 10 to 12) and, if no rule refuses it, taken. One function, so that the offers aren't copied from stage to stage.
 pub fn step(
     t: &[u8],
     table: Table,
@@ -75,5 +34,15 @@ pub fn step(
         ChoiceAnswer::Good(c) => c,
         ChoiceAnswer::Refused(number, place) => return wire::pack(number, place, 0),
     };
-    settle(t, table, b, offers, ends, c, held, out)
+    if let Judged::Refused(number, place) = choice_judge::judge(t, table, offers, ends, held, c) {
+        return wire::pack(number, place, 0);
+    }
+    let mut extra = [0u8; step_gain::ROOM];
+    let moved = step_next::advance(t, table, offers, ends, c, held, &mut extra);
+    let target = ends.target;
+    if !step_close::is_closing(t, table, &target, ends.count, c) {
+        return marking_write::reply(t, table, 0, b, &extra, moved, out);
+    }
+    let cleared = step_close::clear(t, table, moved);
+    marking_write::reply(t, table, 1, b, &extra, cleared, out)
 }

@@ -10,6 +10,7 @@ use lib.Seq.{sets, sets-eq, length-sets, take-append-le, drop-append-le, drop-at
 use borrow.Author.Tests.{eqb-true, eqb-false, ltb-true, ltb-false, lt-ltb, le-ltb}
 use Rattle.paper.specs.Lists.{at, from, has, below, gather, count}
 use Rattle.paper.specs.Bytes.{four}
+use Rattle.paper.specs.Limits.{limits}
 use Rattle.paper.proofs.Lists.{below-more, below-split}
 use Rattle.paper.proofs.Lengths.{gather-append, length-gather}
 use Rattle.paper.proofs.Counts.{count-most}
@@ -148,12 +149,12 @@ module _ (target row value : List ℕ) (w n : ℕ) where
 
   module _ {extra₀ place₀ more₀ extra place more : List ℕ} {to i : ℕ} (s : Laid extra₀ place₀ more₀ extra place more to i) where
     -- there is room for node i's values
-    pub laid-room : n ≤ 20 → 80 ≤ length extra₀ → to + 4 * length (coming target row value w n i) ≤ length extra
+    pub laid-room : n ≤ limits .mostEnds → 4 * limits .mostEnds ≤ length extra₀ → to + 4 * length (coming target row value w n i) ≤ length extra
     laid-room few l =
         omega (arith, s .room, s .extra-long, coming-most target row value w n i, before-more target w n i, before-most target w n (i + 1))
 
-    pub laid-more : (newer : List ℕ) (many : ℕ) → n ≤ 20 → 80 ≤ length extra₀ → i < length place → i < length more → many ≡ length (coming target row value w n i)
-        → newer ≡ sets extra to (gather four (coming target row value w n i))
+    pub laid-more : (newer : List ℕ) (many : ℕ) → n ≤ limits .mostEnds → 4 * limits .mostEnds ≤ length extra₀ → i < length place → i < length more
+        → many ≡ length (coming target row value w n i) → newer ≡ sets extra to (gather four (coming target row value w n i))
         → Laid extra₀ place₀ more₀ newer (set place i to) (set more i many) (to + 4 * many) (i + 1)
     laid-more newer many few l lp lm e q =
         let vs = coming target row value w n i in

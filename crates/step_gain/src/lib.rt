@@ -1,8 +1,10 @@
 // "Then destinations gain, in end order: values append to pins, buffers and parameters, and actions run. Finals drop what arrives."
 // The values that come to a node stand one behind another in a slice of their own. A final has no stock, so nobody looks at what came to it.
-// The nodes at which something is taken are marked first, and only they are asked. Loops take the columns of the ends as lent slices.
+// The nodes at which something is taken are marked first, and only they are asked. What is held is taken by value and changed in place; loops take the columns
+// of the ends as lent slices.
 use ends_masks::Ends;
 use marking_held::Held;
+use offers::MOST_ENDS;
 use table::Table;
 ghost use mathlib.Core.Path.{_≡_};
 ghost use mathlib.Core.Bool.{Bool, not, _&&_, _||_};
@@ -16,38 +18,38 @@ ghost use Rattle.paper.specs.Bytes.{four};
 ghost use Rattle.paper.specs.Limits.{limits};
 ghost use Rattle.paper.specs.Table.{kind, isAction};
 ghost use Rattle.paper.specs.Marking.{Marking};
-ghost use Rattle.words.specs.Marks.{MarksOf, isMarked, placed};
+ghost use Rattle.words.specs.Marks.{MarksOf, placed};
 ghost use Rattle.table.specs.Reading.{Spans};
 ghost use Rattle.offers.specs.Sets.{Marks};
 ghost use Rattle.ends_masks.specs.Seating.{Rowed, EndsFull, served};
 ghost use Rattle.marking_held.specs.MarkingHeld.{HeldLengths, MarkingHeld};
 ghost use Rattle.step_gain.specs.Gains.{goesTo, brought, coming, gainedBy, starts, startedBy};
 
-// Room for the values of 20 ends.
-pub const ROOM: usize = 80;
+// Room for the values of all ends.
+pub const ROOM: usize = 4 * MOST_ENDS;
 
 // ---- the values that come
 
-// Whether end k is taken and has a value.
-fn brings_value(valued: &[u8], row: &[u8], c: u32, k: usize) -> bool
-    requires { ⌜ (k < length (now row)) × (at (now row) k < length (now valued)) × (k < 32) ⌝ }
-    ensures { λ r. ⌜ r ≡ has c k && not (eqb (at (now (valued .entry)) (at (now (row .entry)) k)) 0) ⌝ }
+// Whether end k is taken and has a value, as its row says.
+fn brings_value(valued: u8, c: u32, k: usize) -> bool
+    requires { ⌜ k < 32 ⌝ }
+    ensures { λ r. ⌜ r ≡ has c k && not (eqb valued 0) ⌝ }
 {
     if !choice::is_taken(c, k) {
         return false;
     }
-    valued[wire::wide(row[k])] != 0
+    valued != 0
 }
 
 // The ends that are taken and have a value.
 pub fn bringing(valued: &[u8], row: &[u8], n: usize, c: u32) -> u32
-    requires { ⌜ Rowed (now row) n (length (now valued)) × (n ≤ 20) ⌝ }
+    requires { ⌜ Rowed (now row) n (length (now valued)) × (n ≤ limits .mostEnds) ⌝ }
     ensures { λ r. ⌜ Marks (λ k. has c k && not (eqb (at (now (valued .entry)) (at (now (row .entry)) k)) 0)) n r ⌝ }
 {
     let mut w: u32 = 0;
     let mut k: usize = 0;
     while k < n {
-        if brings_value(valued, row, c, k) {
+        if brings_value(valued[wire::wide(row[k])], c, k) {
             w = w | words::end_of(k);
         }
         k += 1;
@@ -98,7 +100,7 @@ fn gain_node(
     extra: &mut [u8],
     place: usize,
 ) -> usize
-    requires { ⌜ (n ≤ 20) × (n ≤ length (now target)) × Rowed (now row) n (length (now value)) × (place + 4 * length (coming (now target) (now row) (now value) w n i) ≤ length (now extra)) ⌝ }
+    requires { ⌜ (n ≤ limits .mostEnds) × (n ≤ length (now target)) × Rowed (now row) n (length (now value)) × (place + 4 * length (coming (now target) (now row) (now value) w n i) ≤ length (now extra)) ⌝ }
     ensures { λ r. ⌜ (r ≡ length (coming (now (target .entry)) (now (row .entry)) (now (value .entry)) w n i)) × (now (extra .exit) ≡ sets (now (extra .entry)) place (gather four (coming (now (target .entry)) (now (row .entry)) (now (value .entry)) w n i))) ⌝ }
 {
     let mut many: usize = 0;
@@ -112,7 +114,7 @@ fn gain_node(
 
 // Marks the nodes that the taken ends have in a column.
 fn mark_column(column: &[u8], n: usize, c: u32, marks: &mut [u8])
-    requires { ⌜ (n ≤ length (now column)) × (n ≤ 20) ⌝ }
+    requires { ⌜ (n ≤ length (now column)) × (n ≤ limits .mostEnds) ⌝ }
     ensures { λ _. ⌜ ((p : ℕ → Bool) (most : ℕ) → most ≤ length (now (marks .entry)) → MarksOf p most (now (marks .entry)) → MarksOf (λ i. p i || placed (has c) (at (now (column .entry))) n i) most (now (marks .exit))) ⌝ }
 {
     let mut k: usize = 0;
@@ -131,7 +133,7 @@ pub fn gain(
     extra: &mut [u8],
     mut held: Held,
 ) -> Held
-    requires { ⌜ (table .nodes ≤ limits .mostNodes) × EndsFull ends × Rowed (ends .row) (ends .count) (length (now value)) × (80 ≤ length (now extra)) × HeldLengths held ⌝ }
+    requires { ⌜ (table .nodes ≤ limits .mostNodes) × EndsFull ends × Rowed (ends .row) (ends .count) (length (now value)) × (4 * limits .mostEnds ≤ length (now extra)) × HeldLengths held ⌝ }
     ensures { λ r. ⌜ HeldLengths r × ((t : List ℕ) (m : Marking) (old : List ℕ) → Spans t table → ((i : ℕ) → i < table .nodes → length (m .stock i) ≤ limits .mostUpper)
         → MarkingHeld t m old [] held → MarkingHeld t (gainedBy (coming (ends .target) (ends .row) (now (value .entry)) w (ends .count)) m) old (now (extra .exit)) r) ⌝ }
 {
@@ -139,8 +141,6 @@ pub fn gain(
     let row = ends.row;
     let n = ends.count;
     let nodes = table.nodes;
-    let mut place = [0u16; Table::MOST_NODES];
-    let mut more = [0u8; Table::MOST_NODES];
     let mut reached = [0u8; Table::MOST_NODES];
     mark_column(&target, n, w, &mut reached);
     let mut to: usize = 0;
@@ -150,13 +150,11 @@ pub fn gain(
         if reached[i] != 0 {
             many = gain_node(&target, &row, value, w, n, i, extra, to);
         }
-        place[i] = to as u16;
-        more[i] = many as u8;
+        held.place[i] = to as u16;
+        held.more[i] = many as u8;
         to += 4 * many;
         i += 1;
     }
-    held.place = place;
-    held.more = more;
     held
 }
 
@@ -164,7 +162,7 @@ pub fn gain(
 
 // The nodes to which a taken end belongs, marked.
 fn touched_nodes(target: &[u8], home: &[u8], n: usize, c: u32) -> [u8; Table::MOST_NODES]
-    requires { ⌜ (n ≤ length (now target)) × (n ≤ length (now home)) × (n ≤ 20) ⌝ }
+    requires { ⌜ (n ≤ length (now target)) × (n ≤ length (now home)) × (n ≤ limits .mostEnds) ⌝ }
     ensures { λ r. ⌜ MarksOf (served (now (target .entry)) (now (home .entry)) n c) (limits .mostNodes) r ⌝ }
 {
     let mut touched = [0u8; Table::MOST_NODES];
@@ -173,12 +171,12 @@ fn touched_nodes(target: &[u8], home: &[u8], n: usize, c: u32) -> [u8; Table::MO
     touched
 }
 
-// Whether node i is an action that starts.
-fn is_started(t: &[u8], table: Table, touched: &[u8], i: usize) -> bool
-    requires { ⌜ Spans (now t) table × (i < table .nodes) × (table .nodes ≤ length (now touched)) ⌝ }
-    ensures { λ r. ⌜ r ≡ isAction (kind (now (t .entry)) i) && isMarked (now (touched .entry)) i ⌝ }
+// Whether node i is an action that starts, by its mark.
+fn is_started(t: &[u8], table: Table, touched: u8, i: usize) -> bool
+    requires { ⌜ Spans (now t) table × (i < table .nodes) ⌝ }
+    ensures { λ r. ⌜ r ≡ isAction (kind (now (t .entry)) i) && not (eqb touched 0) ⌝ }
 {
-    if touched[i] == 0 {
+    if touched == 0 {
         return false;
     }
     table.kind(t, i) == Table::ACTION
@@ -194,14 +192,12 @@ pub fn run(t: &[u8], table: Table, ends: Ends, c: u32, mut held: Held) -> Held
     let home = ends.home;
     let touched = touched_nodes(&target, &home, ends.count, c);
     let n = table.nodes;
-    let mut runs = held.runs;
     let mut i: usize = 0;
     while i < n {
-        if is_started(t, table, &touched, i) {
-            runs[i] = 1;
+        if is_started(t, table, touched[i], i) {
+            held.runs[i] = 1;
         }
         i += 1;
     }
-    held.runs = runs;
     held
 }

@@ -1,4 +1,4 @@
--- What the parts of the step come to: the paper's next marking is held. Assumes nothing.
+-- What the parts of the step come to: the marking is held that the paper makes of it before it is closed. Assumes nothing.
 use mathlib.Core.Path.{_≡_, refl, sym, ap, _∙_}
 use Prim.Native.Nat.{ℕ, _≤_, _<_}
 use native.Mathlib.Omega.{arith}
@@ -9,10 +9,10 @@ use lib.Dec.{eqb}
 use lib.ListN.{length, drop, length-drop}
 use Rattle.paper.specs.Lists.{at, has, below, any, keep, each, gather, oneIf}
 use Rattle.paper.specs.Limits.{limits}
-use Rattle.paper.specs.Table.{nodes, kind, out, isObjectNode, isAction, isActivityFinal}
-use Rattle.paper.specs.Marking.{Marking, endedOf}
+use Rattle.paper.specs.Table.{nodes, kind, out, isObjectNode, isAction}
+use Rattle.paper.specs.Marking.{Marking}
 use Rattle.paper.specs.Offers.{Offer, value as valueOfOffer, belongs, targetOf}
-use Rattle.paper.specs.Choices.{Board, howMany, end, taken, takenEnds, arrivals, spent, spend, gain, close, next}
+use Rattle.paper.specs.Choices.{Board, howMany, end, taken, takenEnds, arrivals, spent, spend, gain}
 use Rattle.paper.proofs.Bools.{either-way}
 use Rattle.paper.proofs.Counts.{any-same}
 use Rattle.paper.proofs.Lengths.{gather-each}
@@ -24,12 +24,11 @@ use Rattle.offers.specs.declared.Offers.{Offers}
 use Rattle.ends_masks.specs.declared.Ends.{Ends}
 use Rattle.ends_masks.specs.Seating.{Stands, makes}
 use Rattle.ends_masks.proofs.Numbers.{any-below-alike}
-use Rattle.ends_masks.proofs.Taking.{any-ends, spent-rows}
+use Rattle.ends_masks.proofs.Taking.{spent-rows}
 use Rattle.ends_masks.proofs.Rules.{target-row, served-rows}
 use Rattle.marking_held.specs.declared.Held.{Held}
 use Rattle.marking_held.specs.MarkingHeld.{MarkingHeld}
 use Rattle.step_spend.specs.Spending.{spendsRow, spends, loses, spentBy}
-use Rattle.step_close.specs.Closing.{closes}
 use Rattle.step_gain.specs.Gains.{brought, coming, gainedBy, starts, startedBy}
 
 -- ---- a marking said by other words
@@ -71,32 +70,6 @@ single-brought false e x v = refl
 
 -- ---- a board that stands
 module _ (t : List ℕ) (d : Board) (o : Offers) (e : Ends) {runs stock : List ℕ} (c : ℕ) (s : Stands t d o e runs stock) where
-  -- ---- whether the marking is ended
-  closing-is : any (λ y. isActivityFinal (kind (d .table) (targetOf (d .table) y))) (takenEnds d c) ≡ closes t (e .target) (e .count) c
-  unfolding closes
-  closing-is =
-      let z = s .seated in
-      any-ends t d o (s .links) (s .trees) e c z (λ y. isActivityFinal (kind (d .table) (targetOf (d .table) y)))
-      (λ k. isActivityFinal (kind t (at (e .target) k)))
-      (λ k l. ap (λ i. isActivityFinal (kind (d .table) i)) (target-row t d o (s .links) (s .trees) e c z k l)
-      ∙ ap (λ (u : List ℕ). isActivityFinal (kind u (at (e .target) k))) (z .table-is))
-
-  pub next-open : closes t (e .target) (e .count) c ≡ false → next d c ≡ gain d c (spend d c (d .current))
-  unfolding next close
-  next-open q = rw (closing-is ∙ q)
-
-  pub next-closed : closes t (e .target) (e .count) c ≡ true → next d c ≡ endedOf t (gain d c (spend d c (d .current)))
-  unfolding next close
-  next-closed q = rw (closing-is ∙ q) (ap (λ (u : List ℕ). endedOf u (gain d c (spend d c (d .current)))) (s .seated .table-is))
-
-  pub open-state : d .current .ended ≡ false → closes t (e .target) (e .count) c ≡ false → 0 ≡ oneIf (next d c .ended)
-  unfolding gain spend
-  open-state live q = sym (rw (next-open q, live))
-
-  pub closed-state : closes t (e .target) (e .count) c ≡ true → 1 ≡ oneIf (next d c .ended)
-  unfolding endedOf
-  closed-state q = sym (rw (next-closed q))
-
   -- ---- what is spent, by the word of the makers
   module _ (w : ℕ) (q : (y : ℕ) → has w y ≡ makes (e .makers) (e .count) c y) where
     abbrev spent-now : ℕ → Bool
@@ -105,7 +78,7 @@ module _ (t : List ℕ) (d : Board) (o : Offers) (e : Ends) {runs stock : List �
     spent-is : (j : ℕ) → spent-now j ≡ spent d c j
     unfolding spends
     spent-is j =
-        sym (spent-rows t d o (s .links) (s .trees) e c (s .seated) j
+        sym (spent-rows t d o (s .beside) (s .trees) e c (s .seated) j
         ∙ any-below-alike (λ y. makes (e .makers) (e .count) c y && eqb (at (o .parents) y) 0 && eqb (at (o .last) y) j)
         (spendsRow (o .last) (o .parents) w j) (o .count)
         (λ y l. ap (λ z. z && eqb (at (o .parents) y) 0 && eqb (at (o .last) y) j) (sym (q y))))
@@ -152,7 +125,7 @@ module _ (t : List ℕ) (d : Board) (o : Offers) (e : Ends) {runs stock : List �
             let y = at (e .row) k in
             let x : end d k ≡ nth (s .trees) y = sym (z .ends-are k l) in
             let v : valueOfOffer (nth (s .trees) y) ≡ valueOf (at (o .has) y) (at (o .value) y) = sym (z .holds-ts .rows y (z .inside k l) .value-is) in
-            rw (x, target-row t d o (s .links) (s .trees) e c z k l, v, q .says k l)
+            rw (x, target-row t d o (s .beside) (s .trees) e c z k l, v, q .says k l)
             (single-brought (has c k) (eqb (at (e .target) k) i) (at (o .has) y) (at (o .value) y))
 
     gain-stock : (m : Marking) (i : ℕ) → isObjectNode (kind t i) ≡ true → m .stock i ++ coming-now i ≡ gain d c m .stock i
@@ -165,7 +138,7 @@ module _ (t : List ℕ) (d : Board) (o : Offers) (e : Ends) {runs stock : List �
     unfolding gain starts
     gain-runs m i =
         sym (ap (λ (u : List ℕ). m .runs i || (isAction (kind u i) && any (belongs (d .table) i) (takenEnds d c))) (s .seated .table-is)
-        ∙ ap (λ z. m .runs i || (isAction (kind t i) && z)) (served-rows t d o (s .links) (s .trees) e c (s .seated) i))
+        ∙ ap (λ z. m .runs i || (isAction (kind t i) && z)) (served-rows t d o (s .beside) (s .trees) e c (s .seated) i))
 
     pub gain-held : {b extra : List ℕ} {x : Held} (m : Marking)
         → MarkingHeld t (startedBy (starts t (e .target) (e .home) (e .count) c) (gainedBy coming-now m)) b extra x → MarkingHeld t (gain d c m) b extra x

@@ -1,22 +1,64 @@
--- A marking that is held, with edges spent: the oldest value of a stock goes, and counts go to 0. Assumes nothing.
-use mathlib.Core.Path.{_≡_, sym, ap, _∙_}
-use Prim.Native.Nat.{ℕ, _+_, _-_, _*_, _<_}
+-- A marking that is held, with edges spent: counts go to 0, and the oldest value of a stock goes. Assumes nothing.
+use mathlib.Core.Path.{_≡_, refl, sym, ap, subst, _∙_}
+use Prim.Native.Nat.{ℕ, _+_, _-_, _*_, _≤_, _<_}
 use native.Mathlib.Omega.{arith}
-use mathlib.Core.Bool.{Bool, true, false, _&&_, cond}
+use mathlib.Core.Bool.{Bool, true, false, not, _&&_, cond}
 use mathlib.Core.List.{List, [], _∷_, _++_, append-nil}
-use lib.Dec.{leb}
-use lib.ListN.{length, take, drop, length-drop}
+use lib.Dec.{eqb}
+use lib.ListN.{length, take, drop, set, length-drop}
 use lib.Seq.{drop-at, take-add, drop-drop, length-take-le}
-use borrow.Author.Tests.{le-leb, lt-leb, lt-ltb}
+use borrow.Author.Tests.{eq-eqb, ne-eqb, eqb-false, lt-ltb, not-true}
 use Rattle.paper.specs.Lists.{at, gather}
 use Rattle.paper.specs.Bytes.{four}
+use Rattle.paper.specs.Limits.{limits}
 use Rattle.paper.specs.Table.{nodes, edges}
 use Rattle.paper.specs.Marking.{Marking}
-use Rattle.paper.proofs.Bools.{and-never}
+use Rattle.paper.proofs.Bools.{and-true}
+use Rattle.words.specs.Marks.{MarksOf, isMarked}
+use Rattle.words.proofs.Marks.{mark-test}
 use Rattle.marking_held.specs.declared.Held.{Held}
 use Rattle.marking_held.specs.Filling.{Filled}
 use Rattle.marking_held.specs.MarkingHeld.{StockHeld, HeldLengths, MarkingHeld}
-use Rattle.step_spend.specs.Spending.{loses, goes, secondValue, StocksSpent, spentBy}
+use Rattle.marking_held.proofs.Fillings.{filled-none, filled-set, filled-skip}
+use Rattle.step_spend.specs.Spending.{loses, goes, secondValue, tokensSpent, stocksSpent}
+
+-- ---- counts
+abbrev pub withTokens : Held → List ℕ → Held
+withTokens x tokens = record { from = x .from; kept = x .kept; place = x .place; more = x .more; runs = x .runs; tokens = tokens }
+
+-- y is x with the counts of marked edges below n at 0
+pub record TokensGone (marks : List ℕ) (x y : Held) (n : ℕ) : Type 0 where
+  pub others : y ≡ withTokens x (y .tokens)
+  pub filled : Filled (λ e. cond (isMarked marks e) 0 (at (x .tokens) e)) (x .tokens) (y .tokens) n
+
+pub tokens-none : (marks : List ℕ) (x : Held) → TokensGone marks x x 0
+tokens-none marks x = record { others = refl; filled = filled-none (λ e. cond (isMarked marks e) 0 (at (x .tokens) e)) (x .tokens) }
+
+module _ {marks : List ℕ} {x y : Held} {n : ℕ} (h : TokensGone marks x y n) where
+  pub tokens-set : n < length (y .tokens) → isMarked marks n ≡ true → TokensGone marks x (withTokens y (set (y .tokens) n 0)) (n + 1)
+  tokens-set l e = record { others = ap (λ (z : Held). withTokens z (set (y .tokens) n 0)) (h .others); filled = filled-set (h .filled) 0 l (sym (rw e)) }
+
+  pub tokens-skip : isMarked marks n ≡ false → TokensGone marks x y (n + 1)
+  tokens-skip e = record { others = h .others; filled = filled-skip (h .filled) (sym (rw e)) }
+
+  pub tokens-lengths : HeldLengths x → HeldLengths y
+  tokens-lengths l = subst HeldLengths (sym (h .others)) (record {
+    from-long = l .from-long;
+    kept-long = l .kept-long;
+    place-long = l .place-long;
+    more-long = l .more-long;
+    runs-long = l .runs-long;
+    tokens-long = h .filled .long ∙ l .tokens-long;
+  })
+
+  pub tokens-held : (p : ℕ → Bool) → MarksOf p (limits .mostEdges) marks → n ≤ limits .mostEdges → (t : List ℕ) (m : Marking) (b : List ℕ) → n ≡ edges t
+      → MarkingHeld t m b [] x → MarkingHeld t (tokensSpent p m) b [] y
+  tokens-held p k few t m b e v = subst (λ (z : Held). MarkingHeld t (tokensSpent p m) b [] z) (sym (h .others)) (record {
+    stocks = v .stocks;
+    running = v .running;
+    counts = λ j l c.
+        h .filled .done j (omega arith) ∙ ap (λ (g : Bool). cond g 0 (at (x .tokens) j)) (mark-test k j (omega arith)) ∙ ap (cond (p j) 0) (v .counts j l c);
+  })
 
 -- ---- one stock
 second-place : (f : ℕ) → f + 4 < 65536 → secondValue f ≡ f + 4
@@ -44,38 +86,74 @@ module _ (b : List ℕ) (v : ℕ) (vs : List ℕ) (f k q n : ℕ) (short : lengt
         inside = record { few = omega (arith, i .few); in-old = omega (arith, h .many, i .in-extra, i .in-old); in-extra = i .in-extra };
       })
 
+-- a stock of a node that loses or not
 stock-spent : (b vs : List ℕ) (f k q n : ℕ) (g : Bool) → length b < 65536 → StockHeld vs b [] f k q n
-    → StockHeld (cond g (drop 1 vs) vs) b [] (cond (leb 1 k && g) (secondValue f) f) (cond (leb 1 k && g) (k - 1) k) q n
-stock-spent b vs f k q n false s h = rw (and-never (leb 1 k)) h
-stock-spent b [] f k q n true s h = rw (lt-leb 1 k (omega (arith, h .many))) h
-stock-spent b (v ∷ vs) f k q n true s h = rw (le-leb 1 k (omega (arith, h .many, h .inside .in-extra))) (oldest-gone b v vs f k q n s h)
+    → StockHeld (cond g (drop 1 vs) vs) b [] (cond (g && not (eqb k 0)) (secondValue f) f) (cond (g && not (eqb k 0)) (k - 1) k) q n
+stock-spent b vs f k q n false s h = h
+stock-spent b [] f k q n true s h = rw (eq-eqb k 0 (omega (arith, h .many))) h
+stock-spent b (v ∷ vs) f k q n true s h =
+    let d : k ≡ 0 → ⊥ = λ z. omega (arith, h .many, h .inside .in-extra) in
+    rw (ne-eqb k 0 d) (oldest-gone b v vs f k q n s h)
 
--- ---- all that is held
-abbrev pub spentHeld : Held → List ℕ → List ℕ → List ℕ → Held
-spentHeld x from kept tokens = record { from = from; kept = kept; place = x .place; more = x .more; runs = x .runs; tokens = tokens }
+-- ---- all stocks
+-- there is a value that goes
+pub goes-some : (mark kept : ℕ) → goes mark kept ≡ true → 1 ≤ kept
+goes-some mark kept e = let z = eqb-false kept 0 (not-true (eqb kept 0) (and-true (not (eqb mark 0)) (not (eqb kept 0)) e .1)) in omega (arith, z)
 
-module _ (p : ℕ → Bool) (t : List ℕ) (x : Held) (from kept tokens : List ℕ) {n e : ℕ} (en : n ≡ nodes t) (ee : e ≡ edges t)
-    (stocks-spent : StocksSpent (loses p t) t (x .from) (x .kept) from kept n)
-    (tokens-spent : Filled (λ j. cond (p j) 0 (at (x .tokens) j)) (x .tokens) tokens e) where
-  pub spent-lengths : HeldLengths x → HeldLengths (spentHeld x from kept tokens)
-  spent-lengths l = record {
-    from-long = stocks-spent .from-filled .long ∙ l .from-long;
-    kept-long = stocks-spent .kept-filled .long ∙ l .kept-long;
+abbrev pub withStocks : Held → List ℕ → List ℕ → Held
+withStocks x from kept = record { from = from; kept = kept; place = x .place; more = x .more; runs = x .runs; tokens = x .tokens }
+
+-- y is x without the oldest value of each node below n that is marked and not empty: the stock starts one later and has one less
+pub record OldestGone (marks : List ℕ) (x y : Held) (n : ℕ) : Type 0 where
+  pub others : y ≡ withStocks x (y .from) (y .kept)
+  pub froms : Filled (λ i. cond (goes (at marks i) (at (x .kept) i)) (secondValue (at (x .from) i)) (at (x .from) i)) (x .from) (y .from) n
+  pub kepts : Filled (λ i. cond (goes (at marks i) (at (x .kept) i)) (at (x .kept) i - 1) (at (x .kept) i)) (x .kept) (y .kept) n
+
+pub oldest-none : (marks : List ℕ) (x : Held) → OldestGone marks x x 0
+oldest-none marks x = record {
+  others = refl;
+  froms = filled-none (λ i. cond (goes (at marks i) (at (x .kept) i)) (secondValue (at (x .from) i)) (at (x .from) i)) (x .from);
+  kepts = filled-none (λ i. cond (goes (at marks i) (at (x .kept) i)) (at (x .kept) i - 1) (at (x .kept) i)) (x .kept);
+}
+
+module _ {marks : List ℕ} {x y : Held} {n : ℕ} (h : OldestGone marks x y n) where
+  -- the node that comes next is asked as it was
+  asked : (g : Bool) → goes (at marks n) (at (y .kept) n) ≡ g → goes (at marks n) (at (x .kept) n) ≡ g
+  asked g e = ap (goes (at marks n)) (sym (h .kepts .rest n (omega arith))) ∙ e
+
+  pub oldest-set : n < length (y .from) → n < length (y .kept) → goes (at marks n) (at (y .kept) n) ≡ true → (f : ℕ) → f ≡ secondValue (at (y .from) n)
+      → OldestGone marks x (withStocks y (set (y .from) n f) (set (y .kept) n (at (y .kept) n - 1))) (n + 1)
+  oldest-set lf lk e f q = record {
+    others = ap (λ (z : Held). withStocks z (set (y .from) n f) (set (y .kept) n (at (y .kept) n - 1))) (h .others);
+    froms = filled-set (h .froms) f lf (q ∙ ap secondValue (h .froms .rest n (omega arith)) ∙ sym (rw (asked true e)));
+    kepts = filled-set (h .kepts) (at (y .kept) n - 1) lk (ap (λ (k : ℕ). k - 1) (h .kepts .rest n (omega arith)) ∙ sym (rw (asked true e)));
+  }
+
+  pub oldest-skip : goes (at marks n) (at (y .kept) n) ≡ false → OldestGone marks x y (n + 1)
+  oldest-skip e = record {
+    others = h .others;
+    froms = filled-skip (h .froms) (sym (rw (asked false e)));
+    kepts = filled-skip (h .kepts) (sym (rw (asked false e)));
+  }
+
+  pub oldest-lengths : HeldLengths x → HeldLengths y
+  oldest-lengths l = subst HeldLengths (sym (h .others)) (record {
+    from-long = h .froms .long ∙ l .from-long;
+    kept-long = h .kepts .long ∙ l .kept-long;
     place-long = l .place-long;
     more-long = l .more-long;
     runs-long = l .runs-long;
-    tokens-long = tokens-spent .long ∙ l .tokens-long;
-  }
+    tokens-long = l .tokens-long;
+  })
 
-  pub spent-held : (m : Marking) (b : List ℕ) → length b < 65536 → MarkingHeld t m b [] x → MarkingHeld t (spentBy p t m) b [] (spentHeld x from kept tokens)
-  unfolding goes
-  spent-held m b s h = record {
+  pub oldest-held : (p : ℕ → Bool) (t : List ℕ) → MarksOf (loses p t) (limits .mostNodes) marks → n ≤ limits .mostNodes → n ≡ nodes t
+      → (m : Marking) (b : List ℕ) → length b < 65536 → MarkingHeld t m b [] x → MarkingHeld t (stocksSpent p t m) b [] y
+  oldest-held p t k few e m b s v = subst (λ (z : Held). MarkingHeld t (stocksSpent p t m) b [] z) (sym (h .others)) (record {
     stocks = λ i l o.
         let z : i < n = omega arith in
-        let g = loses p t i in
-        let a : at from i ≡ cond (leb 1 (at (x .kept) i) && g) (secondValue (at (x .from) i)) (at (x .from) i) = stocks-spent .from-filled .done i z ∙ rw o in
-        let k : at kept i ≡ cond (leb 1 (at (x .kept) i) && g) (at (x .kept) i - 1) (at (x .kept) i) = stocks-spent .kept-filled .done i z ∙ rw o in
-        rw (a, k) (stock-spent b (m .stock i) (at (x .from) i) (at (x .kept) i) (at (x .place) i) (at (x .more) i) g s (h .stocks i l o));
-    running = h .running;
-    counts = λ j l c. tokens-spent .done j (omega arith) ∙ ap (cond (p j) 0) (h .counts j l c);
-  }
+        let w : isMarked marks i ≡ loses p t i = mark-test k i (omega arith) in
+        rw (h .froms .done i z, h .kepts .done i z, w)
+        (stock-spent b (m .stock i) (at (x .from) i) (at (x .kept) i) (at (x .place) i) (at (x .more) i) (loses p t i) s (v .stocks i l o));
+    running = v .running;
+    counts = v .counts;
+  })

@@ -1,9 +1,9 @@
--- The edges into each node, listed from the last edge to the first. Assumes nothing.
+-- Edges in lists by their keys, listed from the last edge to the first, and lists walked. Assumes nothing.
 use mathlib.Core.Path.{_≡_, refl, sym, ap, _∙_, subst}
 use Prim.Native.Nat.{ℕ, zero, suc, _+_, _-_, _≤_, _<_}
 use mathlib.Core.Logic.{⊎-elim, _⊎_, inl, inr}
-use mathlib.Core.Bool.{Bool, cond}
-use mathlib.Core.List.{List, [], _∷_, _++_}
+use mathlib.Core.Bool.{cond}
+use mathlib.Core.List.{List, [], _∷_}
 use native.Mathlib.Omega.{arith}
 use native.Mathlib.Decide.{decLt}
 use native.Mathlib.Numerals.{add-one}
@@ -14,28 +14,27 @@ use borrow.Author.Tests.{eq-eqb, ne-eqb}
 use Rattle.paper.specs.Lists.{keep, from}
 use Rattle.paper.specs.Limits.{limits}
 use Rattle.paper.specs.Table.{nodes, edges, target, into}
-use Rattle.table.specs.Reading.{Spans}
-use Rattle.table.specs.Incoming.{ListFrom, Forward, Incoming, Unlisted}
+use Rattle.table.specs.Incoming.{ListFrom, Forward, keyed, Listed, Incoming, Unlisted}
 
 -- ---- filling the lists
--- the edges into node i from edge j on
-abbrev late : List ℕ → ℕ → ℕ → List ℕ
-late t i j = keep (λ k. eqb (target t k) i) (from j (edges t - j))
+-- the edges with key i from edge j on
+abbrev late : (ℕ → ℕ) → ℕ → ℕ → ℕ → List ℕ
+late key e i j = keep (λ k. eqb (key k) i) (from j (e - j))
 
--- the edges from j on are listed
-pub record Begun (t first next : List ℕ) (j : ℕ) : Type 0 where
+-- of the edges below e, those from j on are listed
+pub record Begun (key : ℕ → ℕ) (e n : ℕ) (first next : List ℕ) (j : ℕ) : Type 0 where
   pub forward : Forward next
-  pub lows : (i : ℕ) → i < nodes t → j ≤ getD first i 0
-  pub lists : (i : ℕ) → i < nodes t → ListFrom next (getD first i 0) (late t i j)
+  pub lows : (i : ℕ) → i < n → j ≤ getD first i 0
+  pub lists : (i : ℕ) → i < n → ListFrom next (getD first i 0) (late key e i j)
 
-pub begun-none : (t first next : List ℕ) → nodes t ≤ limits .mostNodes → edges t ≤ limits .mostEdges → Unlisted (limits .mostNodes) first
-    → Unlisted (limits .mostEdges) next → Begun t first next (edges t)
-begun-none t first next fn fe bf bn = record {
-  forward = λ j l. let e = bn .no-edges j l in omega arith;
-  lows = λ i l. let e = bf .no-edges i (omega arith) in omega arith;
+pub begun-none : (key : ℕ → ℕ) (e n : ℕ) {room : ℕ} (first next : List ℕ) → e ≤ limits .mostEdges → n ≤ room → Unlisted room first
+    → Unlisted (limits .mostEdges) next → Begun key e n first next e
+begun-none key e n first next few fits bf bn = record {
+  forward = λ j l. let z = bn .no-edges j l in omega arith;
+  lows = λ i l. let z = bf .no-edges i (omega arith) in omega arith;
   lists = λ i l.
-      let e = bf .no-edges i (omega arith) in
-      subst (λ z. ListFrom next (getD first i 0) (keep (λ k. eqb (target t k) i) (from (edges t) z))) (let z : 0 ≡ edges t - edges t = omega arith in z)
+      let q = bf .no-edges i (omega arith) in
+      subst (λ z. ListFrom next (getD first i 0) (keep (λ k. eqb (key k) i) (from e z))) (let z : 0 ≡ e - e = omega arith in z)
       (let z : 64 ≤ getD first i 0 = omega arith in z);
 }
 
@@ -47,66 +46,70 @@ behind next j v k (i ∷ is) f l h =
     let u = f k (h .0 .1) in
     (h .0, subst (λ z. ListFrom (set next j v) z is) (sym (getD-set-other next j k v 0 ne)) (behind next j v (getD next k 0) is f (omega arith) (h .1)))
 
-equal-or-not : (i j : ℕ) → (i ≡ j) ⊎ (i ≡ j → ⊥)
+pub equal-or-not : (i j : ℕ) → (i ≡ j) ⊎ (i ≡ j → ⊥)
 equal-or-not i j = elim (decLt i j) [
   | yes l ↦ inr (omega arith)
   | no l ↦ elim (decLt j i) [ yes k ↦ inr (omega arith) | no k ↦ inl (omega arith) ]
 ]
 
--- edge j too, which leads to node s
-module _ (t first next : List ℕ) (j s : ℕ) (to-s : target t j ≡ s) (lj : j < edges t) (few : edges t ≤ limits .mostEdges) (ln : j < length next)
-    (lf : s < length first) (y : Begun t first next (j + 1)) where
-  late-is : (i : ℕ) → late t i j ≡ cond (eqb s i) (j ∷ late t i (j + 1)) (late t i (j + 1))
+-- edge j too, whose key is s
+module _ (key : ℕ → ℕ) (e n : ℕ) (first next : List ℕ) (j s : ℕ) (key-is : key j ≡ s) (lj : j < e) (few : e ≤ limits .mostEdges) (ln : j < length next)
+    (lf : s < length first) (y : Begun key e n first next (j + 1)) where
+  late-is : (i : ℕ) → late key e i j ≡ cond (eqb s i) (j ∷ late key e i (j + 1)) (late key e i (j + 1))
   late-is i =
-      let e : edges t - j ≡ suc (edges t - (j + 1)) = omega arith in
-      ap (λ z. keep (λ k. eqb (target t k) i) (from j z)) e
-      ∙ ap (λ z. keep (λ k. eqb (target t k) i) (j ∷ from z (edges t - (j + 1)))) (sym (add-one j))
-      ∙ ap (λ z. cond (eqb z i) (j ∷ late t i (j + 1)) (late t i (j + 1))) to-s
+      let q : e - j ≡ suc (e - (j + 1)) = omega arith in
+      ap (λ z. keep (λ k. eqb (key k) i) (from j z)) q
+      ∙ ap (λ z. keep (λ k. eqb (key k) i) (j ∷ from z (e - (j + 1)))) (sym (add-one j))
+      ∙ ap (λ z. cond (eqb z i) (j ∷ late key e i (j + 1)) (late key e i (j + 1))) key-is
 
-  first-low : s < nodes t → j < getD first s 0
+  first-low : s < n → j < getD first s 0
   first-low l = let u = y .lows s l in omega arith
 
   abbrev next' : List ℕ
   next' = set next j (getD first s 0)
 
-  -- the node that the edge leads to
-  list-here : (i : ℕ) → ListFrom next' (getD first i 0) (late t i (j + 1)) → i ≡ s → ListFrom next' (getD (set first s j) i 0) (late t i j)
-  list-here i h e =
-      let q : late t i j ≡ j ∷ late t i (j + 1) = late-is i ∙ rw (eq-eqb s i (sym e)) in
-      let f : getD (set first s j) i 0 ≡ j = ap (λ z. getD (set first s j) z 0) e ∙ getD-set-same first s j 0 lf in
-      let g : getD first i 0 ≡ getD next' j 0 = ap (λ z. getD first z 0) e ∙ sym (getD-set-same next j (getD first s 0) 0 ln) in
-      rw (q, f) ((refl, omega arith), subst (λ z. ListFrom next' z (late t i (j + 1))) g h)
+  -- the edge's own key
+  list-here : (i : ℕ) → ListFrom next' (getD first i 0) (late key e i (j + 1)) → i ≡ s → ListFrom next' (getD (set first s j) i 0) (late key e i j)
+  list-here i h is =
+      let q : late key e i j ≡ j ∷ late key e i (j + 1) = late-is i ∙ rw (eq-eqb s i (sym is)) in
+      let f : getD (set first s j) i 0 ≡ j = ap (λ z. getD (set first s j) z 0) is ∙ getD-set-same first s j 0 lf in
+      let g : getD first i 0 ≡ getD next' j 0 = ap (λ z. getD first z 0) is ∙ sym (getD-set-same next j (getD first s 0) 0 ln) in
+      rw (q, f) ((refl, omega arith), subst (λ z. ListFrom next' z (late key e i (j + 1))) g h)
 
-  -- another node
-  list-there : (i : ℕ) → ListFrom next' (getD first i 0) (late t i (j + 1)) → (i ≡ s → ⊥) → ListFrom next' (getD (set first s j) i 0) (late t i j)
+  -- another key
+  list-there : (i : ℕ) → ListFrom next' (getD first i 0) (late key e i (j + 1)) → (i ≡ s → ⊥) → ListFrom next' (getD (set first s j) i 0) (late key e i j)
   list-there i h ne =
-      let q : late t i j ≡ late t i (j + 1) = late-is i ∙ rw (ne-eqb s i (λ q. ne (sym q))) in
+      let q : late key e i j ≡ late key e i (j + 1) = late-is i ∙ rw (ne-eqb s i (λ q. ne (sym q))) in
       rw (q, getD-set-other first s i j 0 ne) h
 
-  pub begun-more : s < nodes t → Begun t (set first s j) (set next j (getD first s 0)) j
+  pub begun-more : s < n → Begun key e n (set first s j) (set next j (getD first s 0)) j
   begun-more sn = record {
     forward = λ k l. ⊎-elim
-        (λ e. let u = first-low sn in omega (arith, ap (λ z. getD (set next j (getD first s 0)) z 0) e ∙ getD-set-same next j (getD first s 0) 0 ln))
+        (λ is. let u = first-low sn in omega (arith, ap (λ z. getD (set next j (getD first s 0)) z 0) is ∙ getD-set-same next j (getD first s 0) 0 ln))
         (λ ne. omega (arith, getD-set-other next j k (getD first s 0) 0 ne, y .forward k l))
         (equal-or-not k j);
     lows = λ i l. ⊎-elim
-        (λ e. omega (arith, ap (λ z. getD (set first s j) z 0) e ∙ getD-set-same first s j 0 lf))
+        (λ is. omega (arith, ap (λ z. getD (set first s j) z 0) is ∙ getD-set-same first s j 0 lf))
         (λ ne. omega (arith, getD-set-other first s i j 0 ne, y .lows i l))
         (equal-or-not i s);
     lists = λ i l.
-        let old = behind next j (getD first s 0) (getD first i 0) (late t i (j + 1)) (y .forward) (let u = y .lows i l in omega arith) (y .lists i l) in
+        let old = behind next j (getD first s 0) (getD first i 0) (late key e i (j + 1)) (y .forward) (let u = y .lows i l in omega arith) (y .lists i l) in
         ⊎-elim (list-here i old) (list-there i old) (equal-or-not i s);
   }
 
-pub begun-all : (t first next : List ℕ) (j : ℕ) → j ≡ 0 → Begun t first next j → Incoming t first next
-unfolding into
-begun-all t first next j e y = record {
+pub begun-all : {key : ℕ → ℕ} {e n : ℕ} {first next : List ℕ} (j : ℕ) → j ≡ 0 → Begun key e n first next j → Listed key e n first next
+begun-all {key} {e} {n} {first} {next} j z y = record {
   forward = y .forward;
   lists = λ i l.
-      let z : edges t - j ≡ edges t = omega arith in
-      let q : late t i j ≡ into t i = ap (λ n. keep (λ k. eqb (target t k) i) (from j n)) z ∙ ap (λ k. keep (λ k. eqb (target t k) i) (from k (edges t))) e in
+      let d : e - j ≡ e = omega arith in
+      let q : late key e i j ≡ keyed key e i = ap (λ n. keep (λ k. eqb (key k) i) (from j n)) d ∙ ap (λ k. keep (λ k. eqb (key k) i) (from k e)) z in
       subst (λ js. ListFrom next (getD first i 0) js) q (y .lists i l);
 }
+
+-- by the node that an edge enters
+pub incoming-listed : {t first next : List ℕ} → Listed (target t) (edges t) (nodes t) first next → Incoming t first next
+unfolding into
+incoming-listed y = record { forward = y .forward; lists = y .lists }
 
 -- ---- walking a list
 -- at an edge the list goes on with it

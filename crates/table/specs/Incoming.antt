@@ -1,9 +1,11 @@
--- The edges into each node as lists in two arrays: `first` has the first edge of each node, `next` behind each edge the one after it into the same
--- node. A number that is no edge's ends a list. Assumes nothing.
+-- Edges by a key, as the node that they enter, in lists that stand in two arrays: `first` has the first edge of each key, `next` behind each edge the
+-- one after it with the same key. A number that is no edge's ends a list. Assumes nothing.
 use Prim.Native.Nat.{ℕ, _≤_, _<_}
 use mathlib.Core.Path.{_≡_}
 use mathlib.Core.List.{List, [], _∷_}
+use lib.Dec.{eqb}
 use lib.ListN.{length, getD}
+use Rattle.paper.specs.Lists.{below, keep}
 use Rattle.paper.specs.Limits.{limits}
 use Rattle.paper.specs.Table.{nodes, edges, target, into}
 use Rattle.table.specs.Reading.{Spans}
@@ -18,7 +20,16 @@ ListFrom next j (i ∷ is) = ((j ≡ i) × (j < limits .mostEdges)) × ListFrom 
 abbrev pub Forward : List ℕ → Type 0
 Forward next = (j : ℕ) → j < limits .mostEdges → j < getD next j 0
 
--- the lists are those of the table
+-- the edges below e with key i, by number
+abbrev pub keyed : (ℕ → ℕ) → ℕ → ℕ → List ℕ
+keyed key e i = keep (λ j. eqb (key j) i) (below e)
+
+-- the lists of the keys below n are those of the edges below e
+pub record Listed (key : ℕ → ℕ) (e n : ℕ) (first next : List ℕ) : Type 0 where
+  pub forward : Forward next
+  pub lists : (i : ℕ) → i < n → ListFrom next (getD first i 0) (keyed key e i)
+
+-- the lists are those of the table: an edge's key is the node that it enters
 pub record Incoming (t first next : List ℕ) : Type 0 where
   pub forward : Forward next
   pub lists : (i : ℕ) → i < nodes t → ListFrom next (getD first i 0) (into t i)

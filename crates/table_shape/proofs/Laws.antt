@@ -1,6 +1,6 @@
 -- Laws of row 4: tallies one edge further, and the row by kind of node. They hold for any numbers of nodes and edges. Assumes nothing.
 use mathlib.Core.Path.{_≡_, refl, sym, ap, ap₂, _∙_}
-use Prim.Native.Nat.{ℕ, zero, suc, _+_, _*_, _-_, _≤_, _<_}
+use Prim.Native.Nat.{ℕ, zero, suc, _+_, _*_, _≤_, _<_}
 use native.Mathlib.Omega.{arith}
 use native.Mathlib.Nat.{zero-add, add-zero, add-assoc}
 use native.Mathlib.Numerals.{add-one}
@@ -13,16 +13,14 @@ use lib.Seq.{getD-set-same, getD-set-other}
 use borrow.Author.Tests.{eqb-true, eqb-false, eq-eqb, ne-eqb}
 use Rattle.paper.specs.Lists.{at, below, any, keep, count, oneIf}
 use Rattle.paper.specs.Limits.{limits}
-use Rattle.paper.specs.Table.{nodes, edges, kind, edgeKind, source, target, isObject, isControl, into, out, isControlNode, chain, degreesFine, oneKind, joinFine, actionFine, chainFine, shapeFine}
+use Rattle.paper.specs.Table.{edges, kind, edgeKind, source, target, isObject, isControl, into, out, chain, degreesFine, oneKind, joinFine, actionFine, chainFine, shapeFine}
 use Rattle.paper.proofs.Bools.{and-both, or-left, iff}
 use Rattle.paper.proofs.Bools.{and-true as and-true-both, or-true as or-true-cases}
 use Rattle.paper.proofs.Counts.{count-below, count-below-same, count-keep, length-count}
-use Rattle.paper.proofs.Fuel.{no-longer}
 use Rattle.paper.proofs.Shapes.{all-object, all-control}
 use Rattle.paper.proofs.Tables.{EdgeFields}
-use Rattle.words.proofs.Marks.{unmarked}
 use Rattle.table_shape.specs.declared.Degrees.{Degrees}
-use Rattle.table_shape.specs.Shape.{Counts, Tallied, Chained, leadsOn, ofOneKind, splitFine, mergeFine, joinShape, actionShape}
+use Rattle.table_shape.specs.Shape.{Counts, Tallied, ofOneKind, splitFine, mergeFine, joinShape, actionShape}
 
 -- ---- tallies: edge j counts in cell c
 abbrev pub hits : List ℕ → ℕ → ℕ → Bool
@@ -168,23 +166,7 @@ module _ (t : List ℕ) (i : ℕ) (free : chain t (limits .chainTooLong) i ≡ f
   at-rest a d m f j =
       sym (simp (ne-eqb (kind t i) 2 a, ne-eqb (kind t i) 8 d, ne-eqb (kind t i) 9 m, ne-eqb (kind t i) 10 f, ne-eqb (kind t i) 11 j, free))
 
--- ---- what a mark says
+-- ---- where a chain of the forbidden length ends
 pub at-chain-end : (t : List ℕ) (i : ℕ) → chain t (limits .chainTooLong) i ≡ true → shapeFine t limits i ≡ false
 unfolding shapeFine chainFine
 at-chain-end t i e = simp (e, and-false)
-
--- an edge leads on from where a chain ends
-pub leads-not : (t : List ℕ) (k j : ℕ) → chain t k (source t j) ≡ false → leadsOn t k j ≡ false
-leads-not t k j e = rw e (and-false (isControlNode (kind t (target t j))))
-
-pub leads : (t : List ℕ) (k j : ℕ) → chain t k (source t j) ≡ true → leadsOn t k j ≡ isControlNode (kind t (target t j))
-leads t k j e = rw e (and-true (isControlNode (kind t (target t j))))
-
--- a round without a mark settles every longer chain
-pub settled : (t marks : List ℕ) (k n : ℕ) → Chained t k marks → k ≤ n → ((i : ℕ) → i < nodes t → at marks i ≡ 0) → Chained t n marks
-settled t marks k n h l z = record {
-  tell = λ i u.
-      let e : k + (n - k) ≡ n = omega arith in
-      let f : chain t n i ≡ false = rw e at (no-longer t k (n - k) i (unmarked (chain t k i) (sym (h .tell i u) ∙ z i u))) in
-      z i u ∙ ap oneIf (sym f);
-}

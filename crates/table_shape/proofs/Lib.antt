@@ -1,2 +1,3 @@
 -- Laws that the proofs of row 4 cite.
 pub mod Laws
+pub mod Chains

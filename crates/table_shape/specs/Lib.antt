@@ -1,2 +1,3 @@
 -- What the arrays of row 4 hold.
 pub mod Shape
+pub mod Chains

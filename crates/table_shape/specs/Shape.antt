@@ -1,4 +1,4 @@
--- What the arrays of row 4 hold: edges counted at each node, actions that a pin feeds, and nodes at which a chain ends. Assumes nothing.
+-- What the arrays of row 4 hold: edges counted at each node, and actions that a pin feeds. Assumes nothing.
 use Prim.Native.Nat.{ℕ, _+_, _*_, _<_}
 use mathlib.Core.Path.{_≡_}
 use mathlib.Core.Bool.{Bool, _&&_, _||_}
@@ -6,7 +6,7 @@ use mathlib.Core.List.{List, _++_}
 use lib.Dec.{leb, eqb}
 use lib.ListN.{length}
 use Rattle.paper.specs.Lists.{at, all, any, count}
-use Rattle.paper.specs.Table.{nodes, kind, lower, source, target, isControlNode, isObject, isControl, into, out, inputs, chain}
+use Rattle.paper.specs.Table.{nodes, lower, isObject, isControl, into, out, inputs}
 use Rattle.words.specs.Marks.{MarksOf}
 use Rattle.table_shape.specs.declared.Degrees.{Degrees}
 
@@ -33,14 +33,6 @@ isFed t a = any (λ p. leb 1 (lower t p)) (inputs t a)
 
 abbrev pub Fed : List ℕ → List ℕ → Type 0
 Fed t marks = MarksOf (isFed t) (nodes t) marks
-
--- a chain of k control nodes ends at each node marked
-abbrev pub Chained : List ℕ → ℕ → List ℕ → Type 0
-Chained t k marks = MarksOf (chain t k) (nodes t) marks
-
--- edge j leads from the end of such a chain to a control node
-abbrev pub leadsOn : List ℕ → ℕ → ℕ → Bool
-leadsOn t k j = isControlNode (kind t (target t j)) && chain t k (source t j)
 
 -- ---- row 4 by kind of node
 abbrev pub ofOneKind : List ℕ → ℕ → Bool

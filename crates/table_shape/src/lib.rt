@@ -1,21 +1,26 @@
-// Row 4: the shape of a table. Edges are counted and chains followed once for all nodes, and each node is judged from its own cells.
+// Row 4: the shape of a table. Edges are counted and nodes ranked once, and each node is judged from its own cells. Those who build offers go by the
+// ranks too.
 // Assumes that the bytes span the counts, and that rows 2 and 3 passed where a function says so.
 use table::Found;
 use table::Table;
 use table::is_control_node;
 use words::mark;
 ghost use mathlib.Core.Path.{_≡_};
-ghost use mathlib.Core.Bool.{true, false, not, _&&_};
+ghost use mathlib.Core.Bool.{false, not, _&&_};
 ghost use mathlib.Core.List.{List};
 ghost use Prim.Native.Nat.{ℕ, _+_, _*_, _≤_, _<_};
-ghost use lib.Dec.{leb};
+ghost use lib.Dec.{leb, eqb};
 ghost use lib.ListN.{length, set};
 ghost use Rattle.paper.specs.Lists.{at, lowest, oneIf};
 ghost use Rattle.paper.specs.Limits.{limits};
-ghost use Rattle.paper.specs.Table.{nodes, kind, lower, isInput, shapeFine, chain};
+ghost use Rattle.paper.specs.Table.{nodes, edges, kind, lower, isInput, shapeFine, chain};
 ghost use Rattle.table.specs.Reading.{found, Spans, NodesFine, EdgesFine, Blank};
-ghost use Rattle.table_shape.specs.Shape.{Counts, degreesAt, Tallied, isFed, Fed, Chained, leadsOn};
+ghost use Rattle.table_shape.specs.Shape.{Counts, degreesAt, Tallied, isFed, Fed};
 ghost use Rattle.table_shape.specs.Shape.{ofOneKind, splitFine, meetsIn, mergeFine, joinShape, actionShape};
+ghost use Rattle.table_shape.specs.Chains.{Framed, AllRanked, Links, NextRank};
+
+// The highest rank: that of nodes at which a chain of the forbidden length ends.
+const HIGHEST: u8 = Table::CHAIN_TOO_LONG as u8;
 
 // How many edges of each kind stand on one side of a node.
 struct Side {
@@ -99,10 +104,10 @@ fn mark_fed(s: &[u8], table: Table, fed: &mut [u8])
     }
 }
 
-// Marks the control nodes: a chain of one ends there.
+// Marks the control nodes: rank 1, for a chain of one ends there.
 fn mark_control(s: &[u8], table: Table, marks: &mut [u8])
     requires { ⌜ Spans (now s) table × (table .nodes ≤ length (now marks)) ⌝ }
-    ensures { λ _. ⌜ (Blank (now (marks .entry)) → Chained (now (s .entry)) 1 (now (marks .exit))) ⌝ }
+    ensures { λ _. ⌜ (Blank (now (marks .entry)) → AllRanked (now (s .entry)) (now (marks .exit)) 1) ⌝ }
 {
     let n = table.nodes;
     let mut i: usize = 0;
@@ -112,65 +117,73 @@ fn mark_control(s: &[u8], table: Table, marks: &mut [u8])
     }
 }
 
-// Whether edge j leads a chain on, from a marked node to a control node.
-fn leads_on(s: &[u8], table: Table, marks: &[u8], j: usize) -> bool
-    requires { ⌜ Spans (now s) table × EdgesFine (now s) × (j < table .edges) × (table .nodes ≤ length (now marks)) ⌝ }
-    ensures { λ r. ⌜ ((k : ℕ) → Chained (now (s .entry)) k (now (marks .entry)) → r ≡ leadsOn (now (s .entry)) k j) ⌝ }
-{
-    let from = table.source(s, j);
-    if marks[from] == 0 {
-        return false;
-    }
-    is_control_node(table.kind(s, table.target(s, j)))
-}
-
-// From the ends of chains of one length to those of the next.
-fn next_round(s: &[u8], table: Table, marks: &[u8], next: &mut [u8])
-    requires { ⌜ Spans (now s) table × EdgesFine (now s) × (table .nodes ≤ length (now marks)) × (table .nodes ≤ length (now next)) ⌝ }
-    ensures { λ _. ⌜ ((k : ℕ) → 1 ≤ k → Chained (now (s .entry)) k (now (marks .entry)) → Blank (now (next .entry)) → Chained (now (s .entry)) (k + 1) (now (next .exit))) ⌝ }
+// The numbers of the edges from a control node to a control node, and how many there are: chains go over no others.
+fn list_links(s: &[u8], table: Table, rk: &[u8], links: &mut [u8]) -> usize
+    requires { ⌜ Framed (now s) table × AllRanked (now s) (now rk) 1 × (table .nodes ≤ length (now rk)) × (table .edges ≤ length (now links)) ⌝ }
+    ensures { λ n. ⌜ (n ≤ table .edges) × Links (now (s .entry)) (now (links .exit)) (edges (now (s .entry))) n ⌝ }
 {
     let e = table.edges;
+    let mut n: usize = 0;
     let mut j: usize = 0;
     while j < e {
-        mark(next, leads_on(s, table, marks, j), table.target(s, j));
+        if rk[table.source(s, j)] != 0 {
+            if rk[table.target(s, j)] != 0 {
+                links[n] = j as u8;
+                n += 1;
+            }
+        }
         j += 1;
     }
+    n
 }
 
-// Whether one of the first n is marked.
-fn any_marked(marks: &[u8], n: usize) -> bool
-    requires { ⌜ n ≤ length (now marks) ⌝ }
-    ensures { λ r. ⌜ (r ≡ false → (i : ℕ) → i < n → at (now (marks .entry)) i ≡ 0) ⌝ }
+// What a node of rank r lifts the nodes behind it to: one more, as far as ranks go.
+fn next_rank(r: u8) -> u8
+    ensures { λ x. ⌜ NextRank r x ⌝ }
 {
-    let mut i: usize = 0;
-    while i < n {
-        if marks[i] != 0 {
-            return true;
-        }
-        i += 1;
+    if r < HIGHEST {
+        return r + 1;
     }
-    false
+    HIGHEST
 }
 
-// Marks the nodes at which a chain of the forbidden length ends. A round without a mark settles it: no longer chain ends anywhere.
-fn chain_ends(s: &[u8], table: Table) -> [u8; Table::MOST_NODES]
-    requires { ⌜ Spans (now s) table × EdgesFine (now s) ⌝ }
-    ensures { λ r. ⌜ Chained (now (s .entry)) (limits .chainTooLong) r ⌝ }
+// Each of the n links lifts the rank of its target above that of its source; whether a rank has changed. Chains that are told apart grow by one or more.
+fn lift(s: &[u8], table: Table, links: &[u8], n: usize, rk: &mut [u8]) -> bool
+    requires { ⌜ Framed (now s) table × Links (now s) (now links) (edges (now s)) n × (n ≤ length (now links)) × (table .nodes ≤ length (now rk)) ⌝ }
+    ensures { λ r. ⌜ ((k : ℕ) → 1 ≤ k → k < limits .chainTooLong → AllRanked (now (s .entry)) (now (rk .entry)) k → AllRanked (now (s .entry)) (now (rk .exit)) (k + 1) × (r ≡ false → AllRanked (now (s .entry)) (now (rk .exit)) (limits .chainTooLong))) ⌝ }
 {
-    let n = table.nodes;
-    let mut marks = [0u8; Table::MOST_NODES];
-    mark_control(s, table, &mut marks);
+    let mut any = false;
+    let mut x: usize = 0;
+    while x < n {
+        let j = wire::wide(links[x]);
+        let i = table.target(s, j);
+        let r = next_rank(rk[table.source(s, j)]);
+        if rk[i] < r {
+            rk[i] = r;
+            any = true;
+        }
+        x += 1;
+    }
+    any
+}
+
+// The rank of each node: how many control nodes the longest chain has that ends there, and 16 where a chain of 16 ends. A pass that lifts nothing settles it.
+pub fn ranks(s: &[u8], table: Table) -> [u8; Table::MOST_NODES]
+    requires { ⌜ Framed (now s) table ⌝ }
+    ensures { λ r. ⌜ (length r ≡ limits .mostNodes) × AllRanked (now (s .entry)) r (limits .chainTooLong) ⌝ }
+{
+    let mut rk = [0u8; Table::MOST_NODES];
+    mark_control(s, table, &mut rk);
+    let mut links = [0u8; Table::MOST_EDGES];
+    let n = list_links(s, table, &rk, &mut links);
     let mut k: usize = 1;
     while k < Table::CHAIN_TOO_LONG {
-        let mut next = [0u8; Table::MOST_NODES];
-        next_round(s, table, &marks, &mut next);
-        if !any_marked(&next, n) {
-            return next;
+        if !lift(s, table, &links, n, &mut rk) {
+            return rk;
         }
-        marks = next;
         k += 1;
     }
-    marks
+    rk
 }
 
 // How many edges there are on a side.
@@ -243,11 +256,11 @@ fn action_fine(d: Degrees, fed: u8) -> bool
     fed == 1
 }
 
-// Row 4 at a node, from its kind, its degrees and its two marks.
-fn shape_fine(k: usize, d: Degrees, fed: u8, ended: u8) -> bool
-    ensures { λ r. ⌜ ((t : List ℕ) (i : ℕ) → k ≡ kind t i → Counts t i d → fed ≡ oneIf (isFed t i) → ended ≡ oneIf (chain t (limits .chainTooLong) i) → r ≡ shapeFine t limits i) ⌝ }
+// Row 4 at a node, from its kind, its degrees, its mark and its rank.
+fn shape_fine(k: usize, d: Degrees, fed: u8, rank: u8) -> bool
+    ensures { λ r. ⌜ ((t : List ℕ) (i : ℕ) → k ≡ kind t i → Counts t i d → fed ≡ oneIf (isFed t i) → eqb rank (limits .chainTooLong) ≡ chain t (limits .chainTooLong) i → r ≡ shapeFine t limits i) ⌝ }
 {
-    if ended != 0 {
+    if rank == HIGHEST {
         return false;
     }
     match k {
@@ -260,7 +273,7 @@ fn shape_fine(k: usize, d: Degrees, fed: u8, ended: u8) -> bool
     }
 }
 
-// The lowest node that row 4 refuses. Edges are counted and chains followed once for all nodes, so that each node is judged from its own cells.
+// The lowest node that row 4 refuses. Edges are counted and nodes ranked once, so that each node is judged from its own cells.
 pub fn bad_shape(s: &[u8], table: Table) -> Found
     requires { ⌜ Spans (now s) table × NodesFine (now s) × EdgesFine (now s) ⌝ }
     ensures { λ r. ⌜ found r ≡ lowest (λ i. not (shapeFine (now (s .entry)) limits i)) (nodes (now (s .entry))) ⌝ }
@@ -270,10 +283,10 @@ pub fn bad_shape(s: &[u8], table: Table) -> Found
     tally(s, table, &mut cells);
     let mut fed = [0u8; Table::MOST_NODES];
     mark_fed(s, table, &mut fed);
-    let ends = chain_ends(s, table);
+    let rk = ranks(s, table);
     let mut i: usize = 0;
     while i < n {
-        if !shape_fine(table.kind(s, i), degrees_at(&cells, i), fed[i], ends[i]) {
+        if !shape_fine(table.kind(s, i), degrees_at(&cells, i), fed[i], rk[i]) {
             return Found::At(i);
         }
         i += 1;

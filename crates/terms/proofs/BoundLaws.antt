@@ -16,7 +16,7 @@ use Rattle.paper.specs.Offers.{boundsVersion, boundsCount, boundAt, boundEdge, 
 use Rattle.paper.proofs.Bools.{and-true, and-never}
 use Rattle.paper.proofs.Lists.{below-all, all-fails}
 use Rattle.paper.proofs.BoundsLists.{GoodBounds, bounds-rise}
-use Rattle.terms.specs.Terms.{Entries, Found}
+use Rattle.terms.specs.Terms.{Entries, EntryFound}
 
 -- ---- the frame
 abbrev frame : List ℕ → Bool
@@ -86,18 +86,18 @@ module _ {t x : List ℕ} (f : GoodBounds t x) (e n : ℕ) (h : Entries x n) whe
   all-entries : n ≡ boundsCount x
   all-entries = h .counted (omega (arith, f .is-long))
 
-  pub found-here : (k : ℕ) → k < n → boundEdge x k ≡ e → Found x e k
+  pub found-here : (k : ℕ) → k < n → boundEdge x k ≡ e → EntryFound x e k
   found-here k l p = record { one = λ m. p; else = λ m. absurd (omega (arith, m, l, all-entries)) }
 
   -- all are below e
-  pub found-none : ((j : ℕ) → j < n → boundEdge x j < e) → Found x e n
+  pub found-none : ((j : ℕ) → j < n → boundEdge x j < e) → EntryFound x e n
   found-none b = record {
     one = λ m. absurd (omega (arith, m, all-entries));
     else = λ m k l p. omega (arith, b k (omega (arith, l, all-entries)), p);
   }
 
   -- one is above e, and so are those behind it
-  pub found-passed : (k : ℕ) → k < n → ((j : ℕ) → j < k → boundEdge x j < e) → e < boundEdge x k → Found x e n
+  pub found-passed : (k : ℕ) → k < n → ((j : ℕ) → j < k → boundEdge x j < e) → e < boundEdge x k → EntryFound x e n
   found-passed k m b a = record {
     one = λ m. absurd (omega (arith, m, all-entries));
     else = λ q i l p. elim (decLt i k) [

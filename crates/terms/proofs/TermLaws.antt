@@ -14,7 +14,7 @@ use Rattle.paper.proofs.Ladders.{need-good, need-passed}
 use Rattle.paper.proofs.BoundsLists.{GoodBounds, bounds-good, listed-bounds, unlisted-bounds}
 use Rattle.offers.specs.Rows.{admitted}
 use Rattle.offers.specs.declared.Gate.{Gate}
-use Rattle.terms.specs.Terms.{termsFine, Entries, Found, Ties}
+use Rattle.terms.specs.Terms.{termsFine, Entries, EntryFound, Ties}
 
 -- ---- the two rows
 module _ (t g x : List ℕ) where
@@ -56,7 +56,7 @@ module _ {t g x : List ℕ} {goes : ℕ → Option ℕ → Bool} (y : Ties t g x
   pub short-gate : length x < 13 → (v : Option ℕ) → goes e v ≡ admitted (gateOf o false 0 0) v
   short-gate l = free-gate (λ k m z. omega (arith, m, l, fine .is-long))
 
-  module _ (n k : ℕ) (h : Entries x n) (found : (t : List ℕ) → GoodBounds t x → Found x e k) where
+  module _ (n k : ℕ) (h : Entries x n) (found : (t : List ℕ) → GoodBounds t x → EntryFound x e k) where
     all-entries : n ≡ boundsCount x
     all-entries = h .counted (omega (arith, fine .is-long))
 

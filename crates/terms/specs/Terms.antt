@@ -28,7 +28,7 @@ pub record Entries (x : List ℕ) (n : ℕ) : Type 0 where
   pub counted : 4 + 9 * boundsCount x ≤ length x → n ≡ boundsCount x
 
 -- r is edge e's entry, or the count where it has none
-pub record Found (x : List ℕ) (e r : ℕ) : Type 0 where
+pub record EntryFound (x : List ℕ) (e r : ℕ) : Type 0 where
   pub one : r < boundsCount x → boundEdge x r ≡ e
   pub else : boundsCount x ≤ r → (k : ℕ) → k < boundsCount x → boundEdge x k ≡ e → ⊥
 

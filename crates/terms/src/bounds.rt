@@ -14,7 +14,7 @@ ghost use Rattle.paper.specs.Bytes.{framed};
 ghost use Rattle.paper.specs.Offers.{boundsVersion, boundsCount, boundAt, low as lowOf, high as highOf, boundFine, boundsFine};
 ghost use Rattle.paper.proofs.BoundsLists.{GoodBounds};
 ghost use Rattle.table.specs.Reading.{Spans};
-ghost use Rattle.terms.specs.Terms.{Entries, Found};
+ghost use Rattle.terms.specs.Terms.{Entries, EntryFound};
 
 // Bytes before the entries: the length, the version, then the count; and of an entry: the edge, low and high.
 const HEADER: usize = 4;
@@ -104,7 +104,7 @@ pub fn entries(x: &[u8]) -> usize
 // The entry of edge e among n; n if it has none. Edges rise, so the search ends where they pass e.
 pub fn find(x: &[u8], n: usize, e: usize) -> usize
     requires { ⌜ Entries (now x) n ⌝ }
-    ensures { λ r. ⌜ ((t : List ℕ) → GoodBounds t (now (x .entry)) → Found (now (x .entry)) e r) ⌝ }
+    ensures { λ r. ⌜ ((t : List ℕ) → GoodBounds t (now (x .entry)) → EntryFound (now (x .entry)) e r) ⌝ }
 {
     let mut k: usize = 0;
     while k < n {

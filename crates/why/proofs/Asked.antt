@@ -23,8 +23,8 @@ use Rattle.paper.proofs.Members.{In, in-each, in-below}
 use Rattle.paper.proofs.Reasons.{EndsInside, own-inside, last-level, missing-first}
 use Rattle.paper.proofs.Tables.{GoodTable, table-good}
 use Rattle.offers.specs.declared.Offers.{Offers}
-use Rattle.pick_search.specs.declared.Found.{Found}
-use Rattle.pick_search.specs.declared.Found.the-variants.{Choice, Nothing}
+use Rattle.pick_search.specs.declared.ChoiceFound.{ChoiceFound}
+use Rattle.pick_search.specs.declared.ChoiceFound.the-variants.{Choice, Nothing}
 use Rattle.pick_bounds.specs.Net.{held}
 use Rattle.pick_bounds.specs.declared.Wanted.{Wanted}
 use Rattle.ends_masks.specs.Seating.{Stands, served, fits, destinationsFit, noRivals, forksWhole}
@@ -58,23 +58,23 @@ module _ {t : List ℕ} {d : Board} {o : Offers} {es : Ends} {runs stock : List 
 
   module _ (c : ℕ) where
     taken-end : any (belongs (d .table) node) (takenEnds d c) ≡ taken c
-    taken-end = served-rows t d o (s .links) (s .trees) es c (s .seated) node
+    taken-end = served-rows t d o (s .beside) (s .trees) es c (s .seated) node
 
     own-rule : agrees d c (ownOf (d .table) node) ≡ destinationsFit t (es′ .edge) (es′ .target) (es′ .home) runs stock (es′ .count) c
     own-rule =
         rw (w .edges-stay, w .count-stays)
         (ap (λ (u : List ℕ). agrees d c (ownOf u node)) (s .seated .table-is)
-        ∙ agrees-rows t d o (s .links) (s .trees) es c (s .seated) runs stock (s .told) own (own-inside t g node there)
+        ∙ agrees-rows t d o (s .beside) (s .trees) es c (s .seated) runs stock (s .told) own (own-inside t g node there)
         ∙ ap (λ (u : List ℕ). fits u (es .edge) (es .target) (es .home) runs stock (es .count) c own) (s .seated .table-is)
         ∙ sym
         (own-destinations t (es .edge) (es .target) (es .home) (es .count) (s .seated .homes-are)
         g own (own-inside t g node there) (own-no-pin t g node there) (es′ .target) (es′ .home) (w .targets-own) (w .homes-own) runs stock c (roomy s)))
 
     rivals-rule : isGood (judgedBy ((10, rule1 d) ∷ []) c) ≡ noRivals (es′ .foes) (es′ .makers) (es′ .count) c
-    rivals-rule = rw (w .foes-stay, w .makers-stay, w .count-stays) (passes1 t d o (s .links) (s .trees) es c (s .seated) runs stock (s .told))
+    rivals-rule = rw (w .foes-stay, w .makers-stay, w .count-stays) (passes1 t d o (s .beside) (s .trees) es c (s .seated) runs stock (s .told))
 
     forks-rule : isGood (judgedBy ((11, rule2 d) ∷ []) c) ≡ forksWhole t (o .node) (o .parents) (es′ .makers) (o .count) (es′ .count) c
-    forks-rule = rw (w .makers-stay, w .count-stays) (passes2 t d o (s .links) (s .trees) es c (s .seated) runs stock (s .told))
+    forks-rule = rw (w .makers-stay, w .count-stays) (passes2 t d o (s .beside) (s .trees) es c (s .seated) runs stock (s .told))
 
     level-rows : (q : ℕ) → q ≤ 3 → left (levels d node) (suc q) c ≡ taken c && left asked q c
     unfolding left levels
@@ -94,7 +94,7 @@ module _ {t : List ℕ} {d : Board} {o : Offers} {es : Ends} {runs stock : List 
       ∙ and-comm (left asked q c) (taken c) ∙ sym (level-rows c q l)
 
 -- ---- what the search answers of a level
-module _ (asked : List (ℕ → Bool)) (m k : ℕ) (f : Found) (a : Answered (left asked k) m f) where
+module _ (asked : List (ℕ → Bool)) (m k : ℕ) (f : ChoiceFound) (a : Answered (left asked k) m f) where
   pub some-found : (c : ℕ) → f ≡ Choice c → SomeLeft asked m k
   unfolding Answered
   some-found c q = let r : FirstOf (left asked k) m c = rw q at a in (c, r .is-set, r .passes)
@@ -104,7 +104,7 @@ module _ (asked : List (ℕ → Bool)) (m k : ℕ) (f : Found) (a : Answered (le
   none-found q = let r : (x : ℕ) → x < 2 ^ m → left asked k x ≡ false = rw q at a in r
 
 -- a test that says what the level does
-pub level-answered : (asked : List (ℕ → Bool)) (n m k : ℕ) → n ≡ m → (p : ℕ → Bool) → ((c : ℕ) → p c ≡ left asked k c) → (f : Found) → Answered p n f → Answered (left asked k) m f
+pub level-answered : (asked : List (ℕ → Bool)) (n m k : ℕ) → n ≡ m → (p : ℕ → Bool) → ((c : ℕ) → p c ≡ left asked k c) → (f : ChoiceFound) → Answered p n f → Answered (left asked k) m f
 level-answered asked n m k e p h f a = subst (λ (x : ℕ). Answered (left asked k) x f) e (answered-same p (left asked k) n h f a)
 
 -- ---- the reason, of what the levels answered
@@ -136,7 +136,7 @@ module _ {t : List ℕ} {d : Board} {o : Offers} {es : Ends} {runs stock : List 
   missing-1 l = named-reason 1 (missing-first d the-table (ends-inside s) node (rw (s .seated .table-is) l))
 
   -- the last level is what pick wants
-  pub last-answered : (k : ℕ) → k ≤ 4 → 3 < k → (f : Found) → Answered (wanted d node) (howMany d) f → Answered (left (levels d node) (suc k)) (howMany d) f
+  pub last-answered : (k : ℕ) → k ≤ 4 → 3 < k → (f : ChoiceFound) → Answered (wanted d node) (howMany d) f → Answered (left (levels d node) (suc k)) (howMany d) f
   unfolding levels
   last-answered k l g f a =
       let e : k ≡ 4 = omega arith in

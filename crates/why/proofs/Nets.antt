@@ -12,7 +12,7 @@ use Rattle.table.specs.Reading.{Blank}
 use Rattle.offers.specs.declared.Offers.{Offers}
 use Rattle.ends_masks.specs.Seating.{destinationsFit, noRivals, forksWhole}
 use Rattle.ends_masks.specs.declared.Ends.{Ends}
-use Rattle.pick_rules.specs.Rules.{holds, allPass, Starts, Added, AddedUpto, Roomy, onEach, clashKept, forkKept, destinationTests}
+use Rattle.pick_rules.specs.Rules.{holds, allPass, Starts, RulesAdded, AddedUpto, Roomy, onEach, clashKept, forkKept, destinationTests}
 use Rattle.pick_rules.proofs.Rows.{added-then, started-then, blank-starts}
 use Rattle.why.specs.Reasons.{asks}
 use Rattle.pick_rules.proofs.Allowed.{alike-then, clashes-say, forks-say, destinations-alike}
@@ -37,12 +37,12 @@ module _ (t : List ℕ) (o : Offers) (es : Ends) (runs stock : List ℕ) where
   none-asked net b c = blank-starts net (es .count) b .says c
 
   module _ (g : GoodTable t limits) (room : Roomy t stock) where
-    pub own-asked : {net after : List ℕ} {r most : ℕ} → Blank net → Added net 0 after r most (es .count) ownTests → (c : ℕ) → holds after r (es .count) c ≡ left asked 1 c
+    pub own-asked : {net after : List ℕ} {r most : ℕ} → Blank net → RulesAdded net 0 after r most (es .count) ownTests → (c : ℕ) → holds after r (es .count) c ≡ left asked 1 c
     unfolding left
     own-asked {net} b h c =
         started-then (blank-starts net (es .count) b) h c ∙ destinations-alike t o es runs stock c g room .same
 
-    pub rivals-asked : {net after : List ℕ} {r most : ℕ} → Starts net (es .count) (rivalTest ∷ []) → Added net 0 after r most (es .count) ownTests → (c : ℕ) → holds after r (es .count) c ≡ left asked 2 c
+    pub rivals-asked : {net after : List ℕ} {r most : ℕ} → Starts net (es .count) (rivalTest ∷ []) → RulesAdded net 0 after r most (es .count) ownTests → (c : ℕ) → holds after r (es .count) c ≡ left asked 2 c
     unfolding left
     rivals-asked h i c =
         started-then h i c
@@ -50,7 +50,7 @@ module _ (t : List ℕ) (o : Offers) (es : Ends) (runs stock : List ℕ) where
         (destinations-alike t o es runs stock c g room) .same
         ∙ swap (noRivals (es .foes) (es .makers) (es .count) c) (destinationsFit t (es .edge) (es .target) (es .home) runs stock (es .count) c) true
 
-    pub forks-asked : {net own after : List ℕ} {r s most : ℕ} → Starts net (es .count) (rivalTest ∷ []) → Added net 0 own r most (es .count) ownTests
+    pub forks-asked : {net own after : List ℕ} {r s most : ℕ} → Starts net (es .count) (rivalTest ∷ []) → RulesAdded net 0 own r most (es .count) ownTests
         → AddedUpto own r after s (es .count) (forkKept t (o .node) (o .parents) (es .makers) (o .count) (es .count)) (o .count) → (c : ℕ) → holds after s (es .count) c ≡ left asked 3 c
     unfolding left
     forks-asked h i j c =

@@ -14,14 +14,14 @@ ghost use Rattle.offers.specs.Struct.{Full};
 ghost use Rattle.marking_held.specs.MarkingHeld.{HeldLengths};
 ghost use Rattle.pick_bounds.specs.Net.{held as heldOf};
 ghost use Rattle.ends_masks.specs.Seating.{EndsFull};
-ghost use Rattle.pick_rules.specs.Rules.{Roomy, holds};
+ghost use Rattle.pick_rules.specs.Rules.{mostRules, netCells, Roomy, holds};
 ghost use Rattle.pick.specs.Picking.{Answered};
 ghost use Rattle.why.specs.Reasons.{OnBoard, OwnOnly, OwnEnds, asks, Whether};
 use ends_masks::Ends;
 use marking_held::Held;
 use offers::Offers;
 use pick::Question;
-use pick_search::Found;
+use pick_search::ChoiceFound;
 use table::Table;
 
 // A number that no node and no edge has.
@@ -100,8 +100,8 @@ fn fill(
     held: Held,
     k: usize,
 ) -> usize
-    requires { ⌜ Blank (now net) × (440 ≤ length (now net)) × (tableRead (now t) ≡ good table) × Full offers × EndsFull ends × HeldLengths held ⌝ }
-    ensures { λ r. ⌜ (r ≤ 105) × (k ≤ 3 → Roomy (now (t .entry)) (held .kept) → (c : ℕ) → holds (now (net .exit)) r (ends .count) c ≡ left (asks (now (t .entry)) offers ends (held .runs) (held .kept)) k c) ⌝ }
+    requires { ⌜ Blank (now net) × (netCells ≤ length (now net)) × (tableRead (now t) ≡ good table) × Full offers × EndsFull ends × HeldLengths held ⌝ }
+    ensures { λ r. ⌜ (r ≤ mostRules) × (k ≤ 3 → Roomy (now (t .entry)) (held .kept) → (c : ℕ) → holds (now (net .exit)) r (ends .count) c ≡ left (asks (now (t .entry)) offers ends (held .runs) (held .kept)) k c) ⌝ }
 {
     if k == 0 {
         return 0;
@@ -130,8 +130,8 @@ fn prepare(
     k: usize,
     net: &mut [u32],
 ) -> Question
-    requires { ⌜ (tableRead (now t) ≡ good table) × Full offers × EndsFull ends × HeldLengths held × (node < table .nodes) × Blank (now net) × (440 ≤ length (now net)) ⌝ }
-    ensures { λ r. ⌜ (r .rules ≤ 105) × (k ≤ 3 → OnBoard (now (t .entry)) offers ends held (λ d. (c : ℕ) → holds (now (net .exit)) (r .rules) (ends .count) c && leb (r .want .least) (heldOf (ends .count) c (r .want .ends)) ≡ left (levels d node) (suc k) c)) ⌝ }
+    requires { ⌜ (tableRead (now t) ≡ good table) × Full offers × EndsFull ends × HeldLengths held × (node < table .nodes) × Blank (now net) × (netCells ≤ length (now net)) ⌝ }
+    ensures { λ r. ⌜ (r .rules ≤ mostRules) × (k ≤ 3 → OnBoard (now (t .entry)) offers ends held (λ d. (c : ℕ) → holds (now (net .exit)) (r .rules) (ends .count) c && leb (r .want .least) (heldOf (ends .count) c (r .want .ends)) ≡ left (levels d node) (suc k) c)) ⌝ }
 {
     let target = ends.target;
     let home = ends.home;
@@ -146,7 +146,15 @@ fn prepare(
 // ---- the first level at which no choice is left
 
 // The first choice that is left at a level, k levels past the first. At the last level it is pick's.
-fn find(t: &[u8], table: Table, offers: Offers, ends: Ends, held: Held, node: u8, k: usize) -> Found
+fn find(
+    t: &[u8],
+    table: Table,
+    offers: Offers,
+    ends: Ends,
+    held: Held,
+    node: u8,
+    k: usize,
+) -> ChoiceFound
     requires { ⌜ (tableRead (now t) ≡ good table) × Full offers × EndsFull ends × HeldLengths held × (node < table .nodes) ⌝ }
     ensures { λ r. ⌜ (k ≤ 4 → OnBoard (now (t .entry)) offers ends held (λ d. Answered (left (levels d node) (suc k)) (howMany d) r)) ⌝ }
 {
@@ -172,8 +180,8 @@ fn is_left(
     ensures { λ r. ⌜ (k ≤ 4 → OnBoard (now (t .entry)) offers ends held (λ d. Whether (levels d node) (howMany d) (suc k) r)) ⌝ }
 {
     match find(t, table, offers, ends, held, node, k) {
-        Found::Nothing => false,
-        Found::Choice(_) => true,
+        ChoiceFound::Nothing => false,
+        ChoiceFound::Choice(_) => true,
     }
 }
 

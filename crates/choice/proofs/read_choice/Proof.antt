@@ -15,6 +15,13 @@ Inv-loop ks n c₀ low₀ i₀ c low i = Reading ks n c low i
 abbrev μ-loop : tie.MeasureT-loop
 μ-loop ks n c₀ low₀ i₀ c low i = length ks - i
 
+-- ---- places, each from a later one
+abbrev start-from-shared-slice-known : tie.After-shared-slice-known Inv-loop μ-loop → tie.Start Inv-loop μ-loop
+start-from-shared-slice-known c = c .before
+
+abbrev start-from-end-of : tie.After-end-of Inv-loop μ-loop → tie.Start Inv-loop μ-loop
+start-from-end-of c = start-from-shared-slice-known (c .before .before .before .before .before .before .before)
+
 loop-holds : tie.Need-loop-holds Inv-loop μ-loop
 loop-holds c = reading-none (c .before .args .ks .now) (c .before .args .n)
 
@@ -40,9 +47,9 @@ end-of-requires : tie.Need-end-of-requires Inv-loop μ-loop
 end-of-requires c κs = search needs
 
 add-c : tie.Need-add-c Inv-loop μ-loop
-add-c c = let a = c .before .before .before .before .before .before .before .before .args in
+add-c c = let a = start-from-end-of c .args in
     let s = c .before .before .before .before .before .before .loop in
-    omega (arith, c .end-of .ensures, in-mask (a .n) (s .c) (s .low) (c .before .before .before .wide .result) (s .inv .small) (omega arith) (omega arith) (c .before .before .before .before .before .before .before .before .pre))
+    omega (arith, c .end-of .ensures, in-mask (a .n) (s .c) (s .low) (c .before .before .before .wide .result) (s .inv .small) (omega arith) (omega arith) (start-from-end-of c .pre))
 
 add-low : tie.Need-add-low Inv-loop μ-loop
 add-low c = search needs
@@ -54,7 +61,7 @@ loop-less : tie.Need-loop-less Inv-loop μ-loop
 loop-less c = search needs
 
 loop-again : tie.Need-loop-again Inv-loop μ-loop
-loop-again c = let a = c .before .before .before .before .before .before .before .before .args in
+loop-again c = let a = start-from-end-of c .args in
     let s = c .before .before .before .before .before .before .loop in
     let e : c .before .before .before .wide .result ≡ at (a .ks .now) (s .i) = c .before .before .before .wide .ensures .0 in
     let lo : s .low ≤ at (a .ks .now) (s .i) = omega arith in

@@ -10,6 +10,13 @@ use borrow.Author.Needs.{needs}
 use Rattle.choice_judge.proofs.edge_wrong.Statement.{statement}
 use Rattle.choice_judge.proofs.edge_wrong.Tie as tie
 
+-- ---- places, each from a later one
+abbrev start-from-shared-slice-known : tie.After-shared-slice-known → tie.Start
+start-from-shared-slice-known c = c .before
+
+abbrev start-from-taken-of : tie.After-taken-of → tie.Start
+start-from-taken-of c = start-from-shared-slice-known (c .before .before .before .before .before .before .before)
+
 target-requires : tie.Need-target-requires
 target-requires c κs = search needs
 
@@ -32,7 +39,7 @@ taken-of-requires c κs = search needs
 
 returns-2 : tie.Need-returns-2
 unfolding edgeWrong
-returns-2 c = let a = c .before .before .before .before .before .before .before .before .args in
+returns-2 c = let a = start-from-taken-of c .args in
     ap (λ (x : ℕ). not (eqb x 1)) (c .taken-of .ensures .0)
     ∙ goes-on (c .before .before .before .is-marked .ensures ∙ ap (isMarked (a .starting .now)) (c .before .before .before .before .target .ensures .0)) (not (eqb (took (a .by-edge .now) (a .c) (a .e)) 1)) (c .before .before .if1 .left)
 

@@ -16,6 +16,19 @@ Inv-loop node parents rows w passed₀ y₀ passed y = (y ≤ rows) × (length p
 abbrev μ-loop : tie.MeasureT-loop
 μ-loop node parents rows w passed₀ y₀ passed y = rows - y
 
+-- ---- places, each from a later one
+abbrev start-from-in-loop : tie.In-loop Inv-loop μ-loop → tie.Start Inv-loop μ-loop
+start-from-in-loop c = c .before .before .before .before .before
+
+abbrev start-from-slice-known2 : tie.After-slice-known2 Inv-loop μ-loop → tie.Start Inv-loop μ-loop
+start-from-slice-known2 c = start-from-in-loop (c .before .before .before .before .before .before .before)
+
+abbrev loop-from-in-loop : tie.In-loop Inv-loop μ-loop → tie.At-loop Inv-loop μ-loop
+loop-from-in-loop c = c .before
+
+abbrev loop-from-slice-known2 : tie.After-slice-known2 Inv-loop μ-loop → tie.At-loop Inv-loop μ-loop
+loop-from-slice-known2 c = loop-from-in-loop (c .before .before .before .before .before .before .before)
+
 loop-holds : tie.Need-loop-holds Inv-loop μ-loop
 loop-holds c = let a = c .before .before .before .args in (search needs, refl, λ z. passed-none (a .node .now) (a .parents .now) (a .w) (a .passed .now) z)
 
@@ -38,8 +51,8 @@ loop-less : tie.Need-loop-less Inv-loop μ-loop
 loop-less c = search needs
 
 loop-again : tie.Need-loop-again Inv-loop μ-loop
-loop-again c = let a = c .before .before .before .before .before .before .before .before .before .before .before .before .args in
-    let l = c .before .before .before .before .before .before .before .before .loop in
+loop-again c = let a = start-from-slice-known2 c .args in
+    let l = loop-from-slice-known2 c .loop in
     (search needs, omega (arith, c .before .before .add-offers .kept, l .inv .1), λ z. rw (c .before .before .add-offers .ensures) (passed-more (a .node .now) (a .parents .now) (a .w) (l .passed) (l .y) _ _ (c .before .before .before .before .wide .ensures .0) (c .before .before .before .made-from .ensures) (l .inv .2 z)))
 
 same-length : tie.Need-same-length Inv-loop μ-loop

@@ -18,6 +18,13 @@ Inv-loop t table by-edge starting c unfit₀ n e₀ unfit e = (e ≤ n) × (leng
 abbrev μ-loop : tie.MeasureT-loop
 μ-loop t table by-edge starting c unfit₀ n e₀ unfit e = n - e
 
+-- ---- places, each from a later one
+abbrev start-from-loop : tie.At-loop Inv-loop μ-loop → tie.Start Inv-loop μ-loop
+start-from-loop c = c .before .before .before .before .before
+
+abbrev start-from-slice-known2 : tie.After-slice-known2 Inv-loop μ-loop → tie.Start Inv-loop μ-loop
+start-from-slice-known2 c = start-from-loop (c .before .before .before .before .before .before .before)
+
 loop-holds : tie.Need-loop-holds Inv-loop μ-loop
 loop-holds c = let a = c .before .before .before .before .args in
     (search needs, refl, λ p h. pass-none p (edgeWrong (a .t .now) (isMarked (a .starting .now)) (a .c) (a .by-edge .now)) (targetOf (a .t .now)) h)
@@ -38,7 +45,7 @@ loop-less : tie.Need-loop-less Inv-loop μ-loop
 loop-less c = search needs
 
 loop-again : tie.Need-loop-again Inv-loop μ-loop
-loop-again c = let a = c .before .before .before .before .before .before .before .before .before .before .before .before .args in
+loop-again c = let a = start-from-slice-known2 c .args in
     let l = c .before .before .before .before .before .before .before .loop in
     (search needs, search needs, λ p h. pass-more p (edgeWrong (a .t .now) (isMarked (a .starting .now)) (a .c) (a .by-edge .now)) (targetOf (a .t .now)) _ (l .e) (omega (arith, l .inv .1)) (c .before .before .mark .ensures) (c .before .before .before .before .edge-wrong .ensures) (c .before .before .before .target .ensures .0) (l .inv .2 p h))
 

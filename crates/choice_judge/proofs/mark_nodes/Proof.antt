@@ -13,14 +13,31 @@ use Rattle.choice_judge.proofs.mark_nodes.Statement.{statement}
 use Rattle.choice_judge.proofs.mark_nodes.Tie as tie
 
 abbrev Inv-loop : tie.InvT-loop
-Inv-loop t table by-target starting runs stock c unfit₀ n i₀ unfit i = (i ≤ n) × (length unfit ≡ length unfit₀) × ((p : ℕ → Bool) → MarksOf p (table .nodes) unfit₀ → MarksOf (λ j. p j || placed (nodeWrong t (isMarked starting) c by-target runs stock) (λ x. x) i j) (table .nodes) unfit)
+Inv-loop t table by-target starting c unfit₀ runs stock n i₀ unfit i =
+    (i ≤ n) × (length unfit ≡ length unfit₀)
+    × ((p : ℕ → Bool) → MarksOf p (table .nodes) unfit₀
+    → MarksOf (λ j. p j || placed (nodeWrong t (isMarked starting) c by-target runs stock) (λ x. x) i j) (table .nodes) unfit)
 
 abbrev μ-loop : tie.MeasureT-loop
-μ-loop t table by-target starting runs stock c unfit₀ n i₀ unfit i = n - i
+μ-loop t table by-target starting c unfit₀ runs stock n i₀ unfit i = n - i
+
+-- ---- places, each from a later one
+abbrev start-from-stock : tie.After-stock Inv-loop μ-loop → tie.Start Inv-loop μ-loop
+start-from-stock c = c .before .before .before .before .before .before
+
+abbrev loop-from-node-wrong : tie.After-node-wrong Inv-loop μ-loop → tie.At-loop Inv-loop μ-loop
+loop-from-node-wrong c = c .before .before .before .before .before
 
 loop-holds : tie.Need-loop-holds Inv-loop μ-loop
-loop-holds c = let a = c .before .before .before .before .before .before .args in
-    (search needs, refl, λ p h. pass-none p (nodeWrong (a .t .now) (isMarked (a .starting .now)) (a .c) (a .by-target .now) (a .runs .now) (a .stock .now)) (λ x. x) h)
+loop-holds c = let a = start-from-stock c .args in
+    let q = nodeWrong (a .t .now) (isMarked (a .starting .now)) (a .c) (a .by-target .now) (a .held .runs) (a .held .kept) in
+    (search needs, refl, λ p h. pass-none p q (λ x. x) h)
+
+slice-aggregate-node-wrong : tie.Need-slice-aggregate-node-wrong Inv-loop μ-loop
+slice-aggregate-node-wrong c = search needs
+
+slice-aggregate-node-wrong-2 : tie.Need-slice-aggregate-node-wrong-2 Inv-loop μ-loop
+slice-aggregate-node-wrong-2 c = search needs
 
 node-wrong-requires : tie.Need-node-wrong-requires Inv-loop μ-loop
 node-wrong-requires c κs = search needs
@@ -35,18 +52,25 @@ loop-less : tie.Need-loop-less Inv-loop μ-loop
 loop-less c = search needs
 
 loop-again : tie.Need-loop-again Inv-loop μ-loop
-loop-again c = let a = c .before .before .before .before .before .before .before .before .before .before .before .before .before .args in
-    let l = c .before .before .before .before .before .before .loop in
-    (search needs, search needs, λ p h. pass-more p (nodeWrong (a .t .now) (isMarked (a .starting .now)) (a .c) (a .by-target .now) (a .runs .now) (a .stock .now)) (λ x. x) _ (l .i) (omega (arith, l .inv .1)) (c .before .before .mark .ensures) (c .before .before .before .node-wrong .ensures) refl (l .inv .2 p h))
+loop-again c = let w = c .before .before .before in
+    let l = loop-from-node-wrong w in
+    let a = start-from-stock (l .before) .args in
+    let q = nodeWrong (a .t .now) (isMarked (a .starting .now)) (a .c) (a .by-target .now) (a .held .runs) (a .held .kept) in
+    let p = l .loop in (
+      search needs,
+      search needs,
+      λ r h. pass-more r q (λ x. x) _ (p .i) (omega (arith, p .inv .1)) (c .before .before .mark .ensures) (w .node-wrong .ensures) refl (p .inv .2 r h),
+    )
 
 same-length : tie.Need-same-length Inv-loop μ-loop
 same-length c = search needs
 
 returns : tie.Need-returns Inv-loop μ-loop
-returns c = let a = c .before .before .before .before .before .before .before .before .args in
+returns c = let a = start-from-stock (c .before .before) .args in
     let l = c .before .loop in
-    let q = nodeWrong (a .t .now) (isMarked (a .starting .now)) (a .c) (a .by-target .now) (a .runs .now) (a .stock .now) in
-    λ p h. pass-done p q (λ x. x) (l .i) (a .table .nodes) (λ i. p i || q i) (l .inv .2 p h) (omega arith) (λ i g. ap (λ (b : Bool). p i || b) (any-below-self q (a .table .nodes) i g))
+    let q = nodeWrong (a .t .now) (isMarked (a .starting .now)) (a .c) (a .by-target .now) (a .held .runs) (a .held .kept) in
+    λ p h. pass-done p q (λ x. x) (l .i) (a .table .nodes) (λ i. p i || q i) (l .inv .2 p h) (omega arith)
+    (λ i g. ap (λ (b : Bool). p i || b) (any-below-self q (a .table .nodes) i g))
 
 pub mark-nodes-spec : {M : Type 1} → statement M
 mark-nodes-spec =
@@ -55,6 +79,8 @@ mark-nodes-spec =
     Inv-loop
     μ-loop
     loop-holds
+    slice-aggregate-node-wrong
+    slice-aggregate-node-wrong-2
     node-wrong-requires
     mark-requires
     add-i

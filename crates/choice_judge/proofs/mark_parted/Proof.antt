@@ -20,6 +20,19 @@ Inv-loop t table node parents rows w passed parted₀ z₀ parted z = (z ≤ row
 abbrev μ-loop : tie.MeasureT-loop
 μ-loop t table node parents rows w passed parted₀ z₀ parted z = rows - z
 
+-- ---- places, each from a later one
+abbrev start-from-in-loop : tie.In-loop Inv-loop μ-loop → tie.Start Inv-loop μ-loop
+start-from-in-loop c = c .before .before .before .before .before .before .before
+
+abbrev start-from-slice-known2 : tie.After-slice-known2 Inv-loop μ-loop → tie.Start Inv-loop μ-loop
+start-from-slice-known2 c = start-from-in-loop (c .before .before .before .before .before .before .before)
+
+abbrev loop-from-in-loop : tie.In-loop Inv-loop μ-loop → tie.At-loop Inv-loop μ-loop
+loop-from-in-loop c = c .before
+
+abbrev loop-from-slice-known2 : tie.After-slice-known2 Inv-loop μ-loop → tie.At-loop Inv-loop μ-loop
+loop-from-slice-known2 c = loop-from-in-loop (c .before .before .before .before .before .before .before)
+
 loop-holds : tie.Need-loop-holds Inv-loop μ-loop
 loop-holds c = (search needs, refl, λ q b. record { tell = λ a l. b a })
 
@@ -42,8 +55,8 @@ loop-less : tie.Need-loop-less Inv-loop μ-loop
 loop-less c = search needs
 
 loop-again : tie.Need-loop-again Inv-loop μ-loop
-loop-again c = let a = c .before .before .before .before .before .before .before .before .before .before .before .before .before .before .args in
-    let l = c .before .before .before .before .before .before .before .before .loop in
+loop-again c = let a = start-from-slice-known2 c .args in
+    let l = loop-from-slice-known2 c .loop in
     (search needs, search needs, λ q b. pass-more (λ a. false) (leftOut (a .node .now) (a .parents .now) (a .rows) (a .w) (a .t .now)) (at (a .node .now)) _ (l .z) (omega (arith, l .inv .1)) (c .before .before .mark .ensures) (c .before .before .before .before .before .is-left-out .ensures (a .rows) q) (c .before .before .before .wide .ensures .0) (l .inv .2 q b))
 
 same-length : tie.Need-same-length Inv-loop μ-loop

@@ -8,6 +8,13 @@ use borrow.Author.Needs.{needs}
 use Rattle.choice_judge.proofs.parted_fork.Statement.{statement}
 use Rattle.choice_judge.proofs.parted_fork.Tie as tie
 
+-- ---- places, each from a later one
+abbrev start-from-fill-passed : tie.After-fill-passed → tie.Start
+start-from-fill-passed c = c .before .before .before .before .before
+
+abbrev start-from-lowest-marked : tie.After-lowest-marked → tie.Start
+start-from-lowest-marked c = start-from-fill-passed (c .before .before .before .before .before .before .before)
+
 slice-aggregate-fill-passed : tie.Need-slice-aggregate-fill-passed
 slice-aggregate-fill-passed c = search needs
 
@@ -31,7 +38,7 @@ lowest-marked-requires c κs = search needs
 
 returns : tie.Need-returns
 unfolding forksIn
-returns c = let s = c .before .before .before .before .before .before .before .before .before .before .before .before in
+returns c = let s = start-from-lowest-marked c in
     let a = s .args in
     let q = partedAt (a .node .now) (a .parents .now) (a .rows) (a .w) (a .t .now) in
     let f = c .before .before .before .before .before .before .before .fill-passed .ensures (blank (limits .mostNodes)) in

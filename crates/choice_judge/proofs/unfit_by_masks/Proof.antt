@@ -1,8 +1,7 @@
--- `unfit_by_masks`: who starts, then the marks of edges, pins and nodes, then the lowest mark. Assumes nothing.
+-- `unfit_by_masks`: the marks of edges, pins and nodes, then the lowest mark. Assumes nothing.
 use mathlib.Core.Path.{ap, _∙_}
 use mathlib.Core.Bool.{Bool, false, not, _||_}
 use Prim.Native.Nat.{ℕ}
-use native.Mathlib.Omega.{arith}
 use Rattle.paper.specs.Lists.{lowest}
 use Rattle.paper.specs.Limits.{limits}
 use Rattle.paper.specs.Table.{nodes, edges, owner as ownerOf, target as targetOf}
@@ -18,28 +17,16 @@ use Rattle.choice_judge.proofs.unfit_by_masks.Tie as tie
 -- ---- the places of the function, from the last marks back to the entry
 module _ (c : tie.After-mark-nodes) where
   abbrev pins : tie.After-mark-pins
-  pins = c .before .before .before .before
+  pins = c .before .before .before
 
   abbrev edged : tie.After-mark-edges
-  edged = pins .before .before .before .before
-
-  abbrev started : tie.After-mark-starting
-  started = edged .before .before .before .before
+  edged = pins .before .before .before
 
   abbrev start : tie.Start
-  start = started .before .before .before .before .before .before .before .before
-
-slice-aggregate-mark-starting : tie.Need-slice-aggregate-mark-starting
-slice-aggregate-mark-starting c = search needs
-
-mark-starting-requires : tie.Need-mark-starting-requires
-mark-starting-requires c κs = search needs
+  start = edged .before .before .before .before .before .before
 
 slice-aggregate-mark-edges : tie.Need-slice-aggregate-mark-edges
 slice-aggregate-mark-edges c = search needs
-
-slice-aggregate-mark-edges-2 : tie.Need-slice-aggregate-mark-edges-2
-slice-aggregate-mark-edges-2 c = search needs
 
 mark-edges-requires : tie.Need-mark-edges-requires
 mark-edges-requires c κs = search needs
@@ -47,17 +34,11 @@ mark-edges-requires c κs = search needs
 slice-aggregate-mark-pins : tie.Need-slice-aggregate-mark-pins
 slice-aggregate-mark-pins c = search needs
 
-slice-aggregate-mark-pins-2 : tie.Need-slice-aggregate-mark-pins-2
-slice-aggregate-mark-pins-2 c = search needs
-
 mark-pins-requires : tie.Need-mark-pins-requires
 mark-pins-requires c κs = search needs
 
 slice-aggregate-mark-nodes : tie.Need-slice-aggregate-mark-nodes
 slice-aggregate-mark-nodes c = search needs
-
-slice-aggregate-mark-nodes-2 : tie.Need-slice-aggregate-mark-nodes-2
-slice-aggregate-mark-nodes-2 c = search needs
 
 mark-nodes-requires : tie.Need-mark-nodes-requires
 mark-nodes-requires c κs = search needs
@@ -66,39 +47,34 @@ slice-aggregate-lowest-marked : tie.Need-slice-aggregate-lowest-marked
 slice-aggregate-lowest-marked c = search needs
 
 lowest-marked-requires : tie.Need-lowest-marked-requires
-lowest-marked-requires c κs = let p = start (c .before .before) .pre .0 in
-    (omega (arith, p .few-nodes, p .nodes-read, c .before .before .mark-nodes .kept, pins (c .before .before) .mark-pins .kept, edged (c .before .before) .mark-edges .kept), omega (arith, p .few-nodes, p .nodes-read))
+lowest-marked-requires c κs = search needs
 
 returns : tie.Need-returns
 returns c = let m = c .before .before .before in
     let a = start m .args in
+    let p = start m .pre in
     let t = a .t .now in
-    let s = isMarked (started m .mark-starting .last .1 .1 .1 .1 .1 .0) in
+    let s = isMarked (a .starting .now) in
     let e = placed (edgeWrong t s (a .c) (a .by-edge .now)) (targetOf t) (edges t) in
     let i = placed (pinWrong t s (a .c) (a .by-target .now)) (ownerOf t) (nodes t) in
     let one = edged m .mark-edges .ensures (λ i. false) (record { tell = λ i l. blank (limits .mostNodes) i }) in
     let two = pins m .mark-pins .ensures e one in
     let three = m .mark-nodes .ensures (λ j. e j || i j) two in
-    λ edge target home n masks.
-    let q : ℕ → Bool = λ i. not (fits t edge target home (a .runs .now) (a .stock .now) n (a .c) i) in
-    c .lowest-marked .ensures q (unfit-all (a .runs .now) (a .stock .now) (a .c) (start m .pre .0) masks (started m .mark-starting .ensures (blank (limits .mostNodes))) three)
-    ∙ ap (lowest q) (start m .pre .0 .nodes-read)
-    ∙ homes-marked t edge target home (a .runs .now) (a .stock .now) n (a .c)
+    λ edge target home n me mt starts.
+    let q : ℕ → Bool = λ i. not (fits t edge target home (a .held .runs) (a .held .kept) n (a .c) i) in
+    c .lowest-marked .ensures q (unfit-all edge target home (a .held .runs) (a .held .kept) n (a .c) (p .0) (p .1) (p .2) me mt starts three)
+    ∙ ap (lowest q) (p .0 .nodes-read)
+    ∙ homes-marked t edge target home (a .held .runs) (a .held .kept) n (a .c)
 
 pub unfit-by-masks-spec : {M : Type 1} → statement M
 unfit-by-masks-spec =
     tie.close
     (tie.spec
-    slice-aggregate-mark-starting
-    mark-starting-requires
     slice-aggregate-mark-edges
-    slice-aggregate-mark-edges-2
     mark-edges-requires
     slice-aggregate-mark-pins
-    slice-aggregate-mark-pins-2
     mark-pins-requires
     slice-aggregate-mark-nodes
-    slice-aggregate-mark-nodes-2
     mark-nodes-requires
     slice-aggregate-lowest-marked
     lowest-marked-requires

@@ -1,19 +1,30 @@
 -- `ends::lay_paths` meets its contract: the loop has laid the blocks below x. Assumes nothing.
 use mathlib.Core.Path.{_≡_, ap}
-use Prim.Native.Nat.{ℕ, _+_, _*_, _-_, _/_, _%_, _≤_, _<_}
+use Prim.Native.Nat.{ℕ, _+_, _-_, _/_, _%_, _≤_, _<_}
 use native.Mathlib.Omega.{arith}
 use lib.ListN.{length, length-set}
 use borrow.Author.Needs.{needs}
+use Rattle.paper.specs.Limits.{limits}
 use Rattle.paper.specs.Lists.{at}
 use Rattle.offers.proofs.Cells.{filled}
+use Rattle.ends_paths.specs.Blocks.{firstBlock}
+use Rattle.ends.specs.Slots.{laidFrom}
 use Rattle.ends.proofs.lay_paths.Statement.{statement}
 use Rattle.ends.proofs.lay_paths.Tie as tie
 
 abbrev Inv-loop : tie.InvT-loop
-Inv-loop sorted slots n order₀ x₀ order x = (x ≤ 8 * n) × ((length order ≡ length order₀) × ((j : ℕ) → j < x → at order j ≡ at sorted (8 * at slots (j / 8) + j % 8)))
+Inv-loop sorted slots n order₀ x₀ order x =
+    (x ≤ firstBlock n) × ((length order ≡ length order₀) × ((j : ℕ) → j < x → at order j ≡ at sorted (laidFrom slots j)))
 
 abbrev μ-loop : tie.MeasureT-loop
-μ-loop sorted slots n order₀ x₀ order x = 8 * n - x
+μ-loop sorted slots n order₀ x₀ order x = firstBlock n - x
+
+-- ---- places, each from a later one
+abbrev start-from-shared-slice-known : tie.After-shared-slice-known Inv-loop μ-loop → tie.Start Inv-loop μ-loop
+start-from-shared-slice-known c = c .before
+
+abbrev start-from-shared-slice-known4 : tie.After-shared-slice-known4 Inv-loop μ-loop → tie.Start Inv-loop μ-loop
+start-from-shared-slice-known4 c = start-from-shared-slice-known (c .before .before .before .before .before .before .before)
 
 loop-holds : tie.Need-loop-holds Inv-loop μ-loop
 loop-holds c = (search needs, (search needs, λ j l. absurd (omega arith)))
@@ -34,7 +45,9 @@ add-order : tie.Need-add-order Inv-loop μ-loop
 add-order c = search needs
 
 shared-slice-read-order : tie.Need-shared-slice-read-order Inv-loop μ-loop
-shared-slice-read-order c = omega (arith, c .before .wide .ensures .0, c .before .before .before .before .before .before .before .before .pre .1 (c .before .before .before .before .loop .x / 8) (omega arith))
+shared-slice-read-order c =
+    let x = c .before .before .before .before .loop .x in
+    omega (arith, c .before .wide .ensures .0, start-from-shared-slice-known4 c .pre .1 (x / limits .mostPaths) (omega arith))
 
 slice-write-order : tie.Need-slice-write-order Inv-loop μ-loop
 slice-write-order c = search needs
@@ -48,8 +61,10 @@ loop-less c = search needs
 loop-again : tie.Need-loop-again Inv-loop μ-loop
 loop-again c =
     let l = c .before .before .before .before .loop in
-    let a = c .before .before .before .before .before .before .before .before .args in
-    (search needs, (simp length-set (omega arith), filled (λ j. at (a .sorted .now) (8 * at (a .slots .now) (j / 8) + j % 8)) (l .order) (l .x) _ (search needs) (ap (λ z. at (a .sorted .now) (8 * z + l .x % 8)) (c .before .wide .ensures .0)) (l .inv .1 .1)))
+    let a = start-from-shared-slice-known4 c .args in
+    let new = ap (λ z. at (a .sorted .now) (firstBlock z + l .x % limits .mostPaths)) (c .before .wide .ensures .0) in
+    let all = filled (λ j. at (a .sorted .now) (laidFrom (a .slots .now) j)) (l .order) (l .x) _ (search needs) new (l .inv .1 .1) in
+    (search needs, (simp length-set (omega arith), all))
 
 same-length : tie.Need-same-length Inv-loop μ-loop
 same-length c = search needs

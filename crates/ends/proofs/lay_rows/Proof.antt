@@ -10,10 +10,10 @@ use Rattle.ends.proofs.lay_rows.Statement.{statement}
 use Rattle.ends.proofs.lay_rows.Tie as tie
 
 abbrev Inv-loop : tie.InvT-loop
-Inv-loop found slots n rows₀ k₀ rows k = (k ≤ n) × ((length rows ≡ length rows₀) × ((j : ℕ) → j < k → at rows j ≡ at found (at slots j)))
+Inv-loop found slots n ends₀ k₀ ends k = (k ≤ n) × ((length ends ≡ length ends₀) × ((j : ℕ) → j < k → at ends j ≡ at found (at slots j)))
 
 abbrev μ-loop : tie.MeasureT-loop
-μ-loop found slots n rows₀ k₀ rows k = n - k
+μ-loop found slots n ends₀ k₀ ends k = n - k
 
 loop-holds : tie.Need-loop-holds Inv-loop μ-loop
 loop-holds c = (search needs, (search needs, λ j l. absurd (omega arith)))
@@ -24,11 +24,13 @@ shared-slice-read-wide c = search needs
 wide-requires : tie.Need-wide-requires Inv-loop μ-loop
 wide-requires c κs = search needs
 
-shared-slice-read-rows : tie.Need-shared-slice-read-rows Inv-loop μ-loop
-shared-slice-read-rows c = omega (arith, c .before .wide .ensures .0, c .before .before .before .before .before .before .before .before .pre .1 (c .before .before .before .before .loop .k) (omega arith))
+shared-slice-read-ends : tie.Need-shared-slice-read-ends Inv-loop μ-loop
+shared-slice-read-ends c =
+    let l = c .before .before .before .before in
+    omega (arith, c .before .wide .ensures .0, l .before .before .before .before .pre .1 (l .loop .k) (omega arith))
 
-slice-write-rows : tie.Need-slice-write-rows Inv-loop μ-loop
-slice-write-rows c = search needs
+slice-write-ends : tie.Need-slice-write-ends Inv-loop μ-loop
+slice-write-ends c = search needs
 
 add-k : tie.Need-add-k Inv-loop μ-loop
 add-k c = search needs
@@ -38,9 +40,11 @@ loop-less c = search needs
 
 loop-again : tie.Need-loop-again Inv-loop μ-loop
 loop-again c =
-    let l = c .before .before .before .before .loop in
-    let a = c .before .before .before .before .before .before .before .before .args in
-    (search needs, (simp length-set (omega arith), filled (λ j. at (a .found .now) (at (a .slots .now) j)) (l .rows) (l .k) _ (search needs) (ap (at (a .found .now)) (c .before .wide .ensures .0)) (l .inv .1 .1)))
+    let l = c .before .before .before .before in
+    let a = l .before .before .before .before .args in
+    let row = ap (at (a .found .now)) (c .before .wide .ensures .0) in
+    let laid = filled (λ j. at (a .found .now) (at (a .slots .now) j)) (l .loop .ends) (l .loop .k) _ (omega arith) row (l .loop .inv .1 .1) in
+    (search needs, (simp length-set (omega arith), laid))
 
 same-length : tie.Need-same-length Inv-loop μ-loop
 same-length c = search needs
@@ -57,8 +61,8 @@ lay-rows-spec =
     loop-holds
     shared-slice-read-wide
     wide-requires
-    shared-slice-read-rows
-    slice-write-rows
+    shared-slice-read-ends
+    slice-write-ends
     add-k
     loop-less
     loop-again

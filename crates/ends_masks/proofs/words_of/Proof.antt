@@ -1,10 +1,12 @@
-use mathlib.Core.Path.{_≡_, refl, sym, ap, _∙_}
+-- `ends_masks::words_of` meets its contract: the loop has taken the cells of the ends below k. Assumes nothing.
+use mathlib.Core.Path.{_≡_, refl, ap}
 use Prim.Native.Nat.{ℕ, _≤_, _<_, _-_}
 use native.Mathlib.Omega.{arith}
 use lib.ListN.{length}
-use Rattle.paper.specs.Lists.{at}
-use Rattle.ends_masks.proofs.Masks.{column-more}
 use borrow.Author.Needs.{needs}
+use Rattle.paper.specs.Lists.{at}
+use Rattle.offers.specs.Rows.{cell}
+use Rattle.ends_masks.proofs.Masks.{column-more}
 use Rattle.ends_masks.proofs.words_of.Statement.{statement}
 use Rattle.ends_masks.proofs.words_of.Tie as tie
 use Rattle.ends_masks.proofs.words_of.Reads as reads
@@ -12,51 +14,44 @@ use Rattle.ends_masks.proofs.words_of.Lts as lts
 use Rattle.wire.proofs.wide.Reads as wide-reads
 
 abbrev Inv-loop : tie.InvT-loop
-Inv-loop column ends n to₀ k₀ to k = (k ≤ n) × (length to ≡ 20) × ((j : ℕ) → j < k → at to j ≡ at column (at ends j))
+Inv-loop rows i ends n to₀ k₀ to k = (k ≤ n) × (length to ≡ 20) × ((j : ℕ) → j < k → at to j ≡ cell rows (at ends j) i)
 
 abbrev μ-loop : tie.MeasureT-loop
-μ-loop column ends n to₀ k₀ to k = n - k
+μ-loop rows i ends n to₀ k₀ to k = n - k
 
--- src/lib.rt:76:5
 loop-holds : tie.Need-loop-holds Inv-loop μ-loop
 loop-holds c = (search needs, refl, λ j l. absurd (omega arith))
 
--- src/lib.rt:77:35
 shared-slice-read-wide : tie.Need-shared-slice-read-wide Inv-loop μ-loop
 shared-slice-read-wide c = search needs
 
--- src/lib.rt:77:24
 wide-requires : tie.Need-wide-requires Inv-loop μ-loop
 wide-requires c κs = search needs
 
--- src/lib.rt:77:17
 mul-to : tie.Need-mul-to Inv-loop μ-loop
-mul-to c = search needs
+mul-to c = let i = c .before .before .before .before .before .before .pre .0 .each-inside (c .before .before .before .loop .k) (c .before .before .loop-test .taken) in omega (arith, c .wide .ensures .0)
 
--- src/lib.rt:77:17
-shared-slice-read-to : tie.Need-shared-slice-read-to Inv-loop μ-loop
-shared-slice-read-to c =
-    let s = c .before .before .before .before .before .before .before in
-    let i = s .pre .0 .each-inside (c .before .before .before .before .loop .k) (c .before .before .before .loop-test .taken) in
-    omega (arith, c .before .wide .ensures .0)
+add-to : tie.Need-add-to Inv-loop μ-loop
+add-to c = let i = c .before .before .before .before .before .before .pre .0 .each-inside (c .before .before .before .loop .k) (c .before .before .loop-test .taken) in omega (arith, c .wide .ensures .0)
 
--- src/lib.rt:77:9
 mul-to-2 : tie.Need-mul-to-2 Inv-loop μ-loop
-mul-to-2 c = search needs
+mul-to-2 c = let i = c .before .before .before .before .before .before .pre .0 .each-inside (c .before .before .before .loop .k) (c .before .before .loop-test .taken) in omega (arith, c .wide .ensures .0)
 
--- src/lib.rt:77:9
+shared-slice-read-to : tie.Need-shared-slice-read-to Inv-loop μ-loop
+shared-slice-read-to c = let i = c .before .before .before .before .before .before .before .pre .0 .each-inside (c .before .before .before .before .loop .k) (c .before .before .before .loop-test .taken) in omega (arith, c .before .wide .ensures .0, c .before .before .before .before .before .before .before .pre .1)
+
+mul-to-3 : tie.Need-mul-to-3 Inv-loop μ-loop
+mul-to-3 c = search needs
+
 array-write-to : tie.Need-array-write-to Inv-loop μ-loop
 array-write-to c = search needs
 
--- src/lib.rt:78:9
 add-k : tie.Need-add-k Inv-loop μ-loop
 add-k c = search needs
 
--- src/lib.rt:76:5
 loop-less : tie.Need-loop-less Inv-loop μ-loop
 loop-less c = search needs
 
--- src/lib.rt:76:5
 loop-again : tie.Need-loop-again Inv-loop μ-loop
 loop-again c =
     let a = c .before .before .before .before .before .before .before .args in
@@ -64,10 +59,9 @@ loop-again c =
     let r : l .k < length (l .to) = omega (arith, l .inv .1) in (
       search needs,
       search needs,
-      column-more (λ j. at (a .column .now) (at (a .ends .now) j)) (l .to) (l .k) _ r (ap (at (a .column .now)) (c .before .wide .ensures .0)) (l .inv .2),
+      column-more (λ j. cell (a .rows .now) (at (a .ends .now) j) (a .i)) (l .to) (l .k) _ r (ap (λ z. cell (a .rows .now) z (a .i)) (c .before .wide .ensures .0)) (l .inv .2),
     )
 
--- src/lib.rt:70:1
 returns : tie.Need-returns Inv-loop μ-loop
 returns c = (c .before .loop .inv .1, λ k l. c .before .loop .inv .2 k (omega arith))
 
@@ -81,8 +75,10 @@ words-of-spec =
     shared-slice-read-wide
     wide-requires
     mul-to
-    shared-slice-read-to
+    add-to
     mul-to-2
+    shared-slice-read-to
+    mul-to-3
     array-write-to
     add-k
     loop-less

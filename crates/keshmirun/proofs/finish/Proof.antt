@@ -6,6 +6,13 @@ use borrow.Author.Needs.{needs}
 use Rattle.keshmirun.proofs.finish.Statement.{statement}
 use Rattle.keshmirun.proofs.finish.Tie as tie
 
+-- ---- places, each from a later one
+abbrev start-from-shared-slice-known2 : tie.After-shared-slice-known2 → tie.Start
+start-from-shared-slice-known2 c = c .before .before
+
+abbrev start-from-pack : tie.After-pack → tie.Start
+start-from-pack c = start-from-shared-slice-known2 (c .before .before .before .before .before .before .before)
+
 read-requires : tie.Need-read-requires
 read-requires c κs = search needs
 
@@ -19,7 +26,7 @@ pack-requires : tie.Need-pack-requires
 pack-requires c κs = search needs
 
 returns : tie.Need-returns
-returns c = let a = c .before .before .before .before .before .before .before .before .before .args in
+returns c = let a = start-from-pack c .args in
     let e = sym (c .before .before .before .before .read .ensures) ∙ ap said (c .before .before .number .given .1) in
     record { answer = _; allowed = sym (finish-refused (a .table .now) (a .marking .now) (a .action) (a .values .now) _ _ e); reply = (c .pack .ensures, refl) }
 

@@ -9,6 +9,13 @@ use borrow.Author.Needs.{needs}
 use Rattle.keshmirun.proofs.sheet.Statement.{statement}
 use Rattle.keshmirun.proofs.sheet.Tie as tie
 
+-- ---- places, each from a later one
+abbrev start-from-shared-slice-known3 : tie.After-shared-slice-known3 → tie.Start
+start-from-shared-slice-known3 c = c .before .before .before
+
+abbrev start-from-pack : tie.After-pack → tie.Start
+start-from-pack c = start-from-shared-slice-known3 (c .before .before .before .before .before .before .before)
+
 read-requires : tie.Need-read-requires
 read-requires c κs = search needs
 
@@ -22,7 +29,7 @@ pack-requires : tie.Need-pack-requires
 pack-requires c κs = search needs
 
 returns : tie.Need-returns
-returns c = let a = c .before .before .before .before .before .before .before .before .before .before .args in
+returns c = let a = start-from-pack c .args in
     table-refused (a .table .now) (a .marking .now) (terms (a .guards .now) (a .bounds .now)) [] Sheet _ _ (c .pack .result) (a .out .now) (sym (c .before .before .before .before .read .ensures) ∙ ap said (c .before .before .number .given .1)) (c .pack .ensures)
 
 slice-aggregate-ask : tie.Need-slice-aggregate-ask

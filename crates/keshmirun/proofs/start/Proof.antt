@@ -6,6 +6,13 @@ use borrow.Author.Needs.{needs}
 use Rattle.keshmirun.proofs.start.Statement.{statement}
 use Rattle.keshmirun.proofs.start.Tie as tie
 
+-- ---- places, each from a later one
+abbrev start-from-shared-slice-known : tie.After-shared-slice-known → tie.Start
+start-from-shared-slice-known c = c .before
+
+abbrev start-from-pack : tie.After-pack → tie.Start
+start-from-pack c = start-from-shared-slice-known (c .before .before .before .before .before .before .before)
+
 read-requires : tie.Need-read-requires
 read-requires c κs = search needs
 
@@ -20,7 +27,7 @@ pack-requires c κs = search needs
 
 returns : tie.Need-returns
 returns c =
-    let a = c .before .before .before .before .before .before .before .before .args in
+    let a = start-from-pack c .args in
     let e = sym (c .before .before .before .before .read .ensures) ∙ ap said (c .before .before .number .given .1) in
     record { answer = _; allowed = sym (start-refused (a .table .now) (a .values .now) _ _ e); reply = (c .pack .ensures, refl) }
 

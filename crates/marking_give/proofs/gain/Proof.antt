@@ -25,6 +25,13 @@ abbrev μ-loop : tie.MeasureT-loop
 abbrev entry : tie.In-loop Inv-loop μ-loop → tie.Start Inv-loop μ-loop
 entry c = c .before .before .before .before
 
+-- ---- places, each from a later one
+abbrev start-from-slice-known : tie.After-slice-known Inv-loop μ-loop → tie.Start Inv-loop μ-loop
+start-from-slice-known c = c .before .before
+
+abbrev start-from-slice-known3 : tie.After-slice-known3 Inv-loop μ-loop → tie.Start Inv-loop μ-loop
+start-from-slice-known3 c = start-from-slice-known (c .before .before .before .before .before .before .before)
+
 loop-holds : tie.Need-loop-holds Inv-loop μ-loop
 loop-holds c = let a = c .before .before .args in (
   omega arith,
@@ -62,7 +69,7 @@ add-tokens : tie.Need-add-tokens Inv-loop μ-loop
 add-tokens c = omega (arith, (c .slice-known3 .given (c .before .before .before .before .before .before .loop .j)) .fits)
 
 slice-write-tokens : tie.Need-slice-write-tokens Inv-loop μ-loop
-slice-write-tokens c = omega (arith, c .before .before .before .before .before .before .before .before .before .pre)
+slice-write-tokens c = omega (arith, start-from-slice-known3 c .pre)
 
 add-j : tie.Need-add-j Inv-loop μ-loop
 add-j c = search needs

@@ -6,7 +6,6 @@ use Prim.Native.Nat.{ℕ}
 use native.Mathlib.Omega.{arith}
 use borrow.Author.Tests.{not-true, not-false}
 use Rattle.paper.specs.Operations.{valueLists}
-use Rattle.paper.proofs.Bytes.{Bytes}
 use Rattle.table.proofs.Reading.{read-spans, read-good, most-nodes, most-edges}
 use Rattle.marking.specs.Values.{listedNodes, ValuesRead}
 use Rattle.marking.specs.declared.values.ValuesAnswer.{ValuesAnswer}
@@ -31,8 +30,8 @@ lists-good c = c .before .before .before .before
 abbrev stocks-asked : tie.After-gain → tie.After-stocks-fit
 stocks-asked c = c .before .before .before .before
 
-abbrev counts-gained : tie.After-narrow → tie.After-gain
-counts-gained c = c .before .before .before .before .before .before
+abbrev counts-gained : tie.After-runs → tie.After-gain
+counts-gained c = c .before .before .before .before
 
 -- ---- what was read, by the place where the lists are known to be good
 module _ (c : tie.After-enum-told) where
@@ -54,14 +53,14 @@ module _ (c : tie.After-enum-told) where
   abbrev fires : ℕ → Bool
   fires = firesAs t (start .args .firing)
 
-  abbrev places : List ℕ
-  places = lists-read c .read-values .last .1 .1 .1 .1 .1 .0
+  abbrev place : List ℕ
+  place = lists-read c .read-values .last .1 .1 .1 .1 .1 .0
 
   abbrev more : List ℕ
   more = lists-read c .read-values .last .1 .1 .1 .1 .1 .1 .0
 
-  are-good : ValuesRead t kind owner values places more (valueLists (listedNodes t kind owner) values) Good
-  are-good = subst (λ (r : ValuesAnswer). ValuesRead t kind owner values places more (valueLists (listedNodes t kind owner) values) r)
+  are-good : ValuesRead t kind owner values place more (valueLists (listedNodes t kind owner) values) Good
+  are-good = subst (λ (r : ValuesAnswer). ValuesRead t kind owner values place more (valueLists (listedNodes t kind owner) values) r)
       (c .enum-told .given .1) (lists-read c .read-values .ensures)
 
 slice-aggregate-read-values : tie.Need-slice-aggregate-read-values
@@ -120,8 +119,8 @@ returns-2 c = let f = c .before .before in
     let z = c .refused2 .ensures in (
       subst HeldLengths (sym (z .1)) (s .pre .1),
       λ m old g.
-          gives-16-stocks (t d) (kind d) (owner d) (fires d) m (values d) old (s .args .held) g (places d) (more d) (are-good d) (c .refused2 .result) (z .0)
-          (sym (f .stocks-fit .ensures _ (amounts (t d) (kind d) (owner d) (fires d) m (values d) old (s .args .held) g (places d) (more d) (are-good d)))
+          gives-16-stocks (t d) (kind d) (owner d) (fires d) m (values d) old (s .args .held) g (place d) (more d) (are-good d) (c .refused2 .result) (z .0)
+          (sym (f .stocks-fit .ensures _ (amounts (t d) (kind d) (owner d) (fires d) m (values d) old (s .args .held) g (place d) (more d) (are-good d)))
           ∙ not-true _ (c .before .if1 .taken)),
     )
 
@@ -144,43 +143,35 @@ returns-3 c = let w = c .before .before .before in
     let q = not-true _ (c .before .if2 .taken) in (
       subst HeldLengths (sym (z .1)) (s .pre .1),
       λ m old g.
-          let am = amounts (t d) (kind d) (owner d) (fires d) m (values d) old (s .args .held) g (places d) (more d) (are-good d) in
+          let am = amounts (t d) (kind d) (owner d) (fires d) m (values d) old (s .args .held) g (place d) (more d) (are-good d) in
           let fit = sym (f .stocks-fit .ensures _ am) ∙ not-false _ (w .before .before .before .if1 .left) in
           let e = w .gain .ensures (m .tokens) (record { counts = g .held .counts; none = g .no-count }) in
-          gives-16-counts (t d) (kind d) (owner d) (fires d) m (values d) old (s .args .held) g (places d) (more d) (are-good d) fit (c .refused3 .result)
+          gives-16-counts (t d) (kind d) (owner d) (fires d) m (values d) old (s .args .held) g (place d) (more d) (are-good d) fit (c .refused3 .result)
           (z .0) (w .gain .last .1 .1 .1 .0)
           (sym q ∙ e .0, λ r. e .1 (q ∙ r)),
     )
-
-slice-aggregate-narrow : tie.Need-slice-aggregate-narrow
-slice-aggregate-narrow c = search needs
-
-narrow-requires : tie.Need-narrow-requires
-narrow-requires c κs = let v = lists-read (lists-good (stocks-asked (c .before .before .before .before .before))) in omega (arith, v .read-values .kept)
 
 returns-4 : tie.Need-returns-4
 returns-4 c = let w = counts-gained c in
     let f = stocks-asked w in
     let d = lists-good f in
     let s = start d in
-    let n = c .narrow .ensures in
-    let l = s .pre .1 in
-    let u : Bytes (values d) = λ k. (lists-read d .before .before .before .shared-slice-known2 .given k) .fits in (
+    let l = s .pre .1 in (
       record {
         from-long = l .from-long;
         kept-long = l .kept-long;
-        place-long = n .long;
+        place-long = omega (arith, lists-read d .read-values .kept);
         more-long = omega (arith, lists-read d .read-values .kept);
         runs-long = l .runs-long;
         tokens-long = omega (arith, l .tokens-long, w .gain .kept);
       },
       λ m old g.
-          let am = amounts (t d) (kind d) (owner d) (fires d) m (values d) old (s .args .held) g (places d) (more d) (are-good d) in
+          let am = amounts (t d) (kind d) (owner d) (fires d) m (values d) old (s .args .held) g (place d) (more d) (are-good d) in
           let fit = sym (f .stocks-fit .ensures _ am) ∙ not-false _ (w .before .before .before .if1 .left) in
           let e = w .gain .ensures (m .tokens) (record { counts = g .held .counts; none = g .no-count }) in
-          let q = not-false _ (c .before .before .before .before .if2 .left) in
-          gives-all (t d) (kind d) (owner d) (fires d) m (values d) old (s .args .held) g (places d) (more d) (are-good d) fit
-          (read-good (t d) (s .pre .0)) (read-spans (t d) (s .pre .0) .few-nodes) u n (w .gain .last .1 .1 .1 .0)
+          let q = not-false _ (c .before .before .if2 .left) in
+          gives-all (t d) (kind d) (owner d) (fires d) m (values d) old (s .args .held) g (place d) (more d) (are-good d) fit
+          (read-good (t d) (s .pre .0)) (w .gain .last .1 .1 .1 .0)
           (sym q ∙ e .0, λ r. e .1 (q ∙ r)),
     )
 
@@ -204,6 +195,4 @@ give-spec =
     gain-requires
     refused-requires-3
     returns-3
-    slice-aggregate-narrow
-    narrow-requires
     returns-4)

@@ -9,6 +9,13 @@ use borrow.Author.Needs.{needs}
 use Rattle.marking_give.proofs.stock_fits.Statement.{statement}
 use Rattle.marking_give.proofs.stock_fits.Tie as tie
 
+-- ---- places, each from a later one
+abbrev start-from-kind : tie.After-kind → tie.Start
+start-from-kind c = c .before .before .before .before
+
+abbrev start-from-upper : tie.After-upper → tie.Start
+start-from-upper c = start-from-kind (c .before .before .before .before .before .before .before)
+
 kind-requires : tie.Need-kind-requires
 kind-requires c κs = search needs
 
@@ -38,7 +45,7 @@ upper-requires : tie.Need-upper-requires
 upper-requires c κs = search needs
 
 returns-2 : tie.Need-returns-2
-returns-2 c = let a = c .before .before .before .before .before .before .before .before .before .before .before .args in
+returns-2 c = let a = start-from-upper c .args in
     λ held h.
     ap₂ leb (ap₂ _+_ (c .before .before .before .wide .ensures .0) (c .before .wide2 .ensures .0) ∙ h .stock (a .i) (omega arith) (ap isObjectNode (sym (c .before .before .before .before .before .before .before .kind .ensures .0)) ∙ sym (c .before .before .before .before .before .before .is-object-node .ensures) ∙ not-false _ (c .before .before .before .before .before .if1 .left)))
     (c .upper .ensures .0)

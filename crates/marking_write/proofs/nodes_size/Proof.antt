@@ -1,4 +1,4 @@
--- `nodes_size` is what the nodes' fields take. The invariant: the sum of those passed, of which each is at most 2,041. Assumes nothing.
+-- `nodes_size` is what the nodes' fields take. The invariant: the sum of those passed, of which none exceeds the most that a node takes. Assumes nothing.
 use Rattle.marking_write.proofs.WritingLaws.{size-same}
 use mathlib.Core.Path.{_≡_}
 use Prim.Native.Nat.{_*_, _-_, _≤_}
@@ -6,13 +6,13 @@ use native.Mathlib.Omega.{arith}
 use Rattle.paper.specs.Table.{nodes}
 use Rattle.wire.specs.Totals.{total}
 use Rattle.wire.proofs.Runs.{total-more}
-use Rattle.marking_write.specs.Writing.{nodeSize}
+use Rattle.marking_write.specs.Writing.{nodeSize, mostNodeSize}
 use borrow.Author.Needs.{needs}
 use Rattle.marking_write.proofs.nodes_size.Statement.{statement}
 use Rattle.marking_write.proofs.nodes_size.Tie as tie
 
 abbrev Inv-loop : tie.InvT-loop
-Inv-loop t table kept more n taken₀ i₀ taken i = (i ≤ n) × (taken ≡ total (nodeSize t kept more) i) × (taken ≤ 2041 * i)
+Inv-loop t table kept more n taken₀ i₀ taken i = (i ≤ n) × (taken ≡ total (nodeSize t kept more) i) × (taken ≤ i * mostNodeSize)
 
 abbrev μ-loop : tie.MeasureT-loop
 μ-loop t table kept more n taken₀ i₀ taken i = n - i

@@ -22,6 +22,13 @@ Inv-loop t table out₀ start tokens n to₀ j₀ out to j = (j ≤ n) × (to �
 abbrev μ-loop : tie.MeasureT-loop
 μ-loop t table out₀ start tokens n to₀ j₀ out to j = n - j
 
+-- ---- places, each from a later one
+abbrev start-from-shared-slice-known : tie.After-shared-slice-known Inv-loop μ-loop → tie.Start Inv-loop μ-loop
+start-from-shared-slice-known c = c .before
+
+abbrev start-from-slice-known2 : tie.After-slice-known2 Inv-loop μ-loop → tie.Start Inv-loop μ-loop
+start-from-slice-known2 c = start-from-shared-slice-known (c .before .before .before .before .before .before .before)
+
 loop-holds : tie.Need-loop-holds Inv-loop μ-loop
 unfolding total
 loop-holds c = search needs
@@ -42,7 +49,7 @@ loop-less : tie.Need-loop-less Inv-loop μ-loop
 loop-less c = search needs
 
 loop-again : tie.Need-loop-again Inv-loop μ-loop
-loop-again c = let a = c .before .before .before .before .before .before .before .before .args in
+loop-again c = let a = start-from-slice-known2 c .args in
     let l = c .before .before .before .before .before .loop in
     let w = c .before .before .write-edge in (
       omega arith,

@@ -8,6 +8,13 @@ use borrow.Author.Needs.{needs}
 use Rattle.marking_write.proofs.write_node.Statement.{statement}
 use Rattle.marking_write.proofs.write_node.Tie as tie
 
+-- ---- places, each from a later one
+abbrev start-from-shared-slice-known2 : tie.After-shared-slice-known2 → tie.Start
+start-from-shared-slice-known2 c = c .before .before
+
+abbrev start-from-slice-known2 : tie.After-slice-known2 → tie.Start
+start-from-slice-known2 c = start-from-shared-slice-known2 (c .before .before .before .before .before .before .before)
+
 is-object-node-requires : tie.Need-is-object-node-requires
 is-object-node-requires c κs = search needs
 
@@ -21,7 +28,7 @@ same-length : tie.Need-same-length
 same-length c = search needs
 
 returns : tie.Need-returns
-returns c = let a = c .before .before .before .before .before .before .before .before .before .args in
+returns c = let a = start-from-slice-known2 c .args in
     let o = sym (c .before .before .before .before .before .is-object-node .ensures) ∙ c .before .before .before .before .if1 .taken in
     let w = c .before .before .write-stock .ensures in
     (omega (arith, w .0, stock-size (a .k) (a .node .kept + a .node .more) o), rw (stock-bytes (a .k) (a .old .now) (a .extra .now) (a .node) o) (w .1))

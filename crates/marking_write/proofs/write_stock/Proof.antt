@@ -18,6 +18,13 @@ sized c = c .before .before .before .before
 abbrev kept-copied : tie.After-copy2 → tie.After-copy
 kept-copied c = c .before .before .before .before .before
 
+-- ---- places, each from a later one
+abbrev start-from-shared-slice-known : tie.After-shared-slice-known → tie.Start
+start-from-shared-slice-known c = c .before
+
+abbrev start-from-copy-arg : tie.After-copy-arg → tie.Start
+start-from-copy-arg c = start-from-shared-slice-known (c .before .before .before .before .before .before .before)
+
 wide-requires : tie.Need-wide-requires
 wide-requires c κs = search needs
 
@@ -49,7 +56,7 @@ add-copy : tie.Need-add-copy
 add-copy c = search needs
 
 copy-requires : tie.Need-copy-requires
-copy-requires c κs = let b = c .before .before .before .before .before .before .before .before in
+copy-requires c κs = let b = start-from-copy-arg c in
     let w = c .before .before .before .before .wide .ensures .0 in (
       omega (arith, b .pre .0 .in-old, c .before .place-of .ensures .0, w),
       omega (arith, b .pre .1, w, length-set (b .args .out .now) (b .args .to) (b .args .node .kept + b .args .node .more)),

@@ -51,6 +51,37 @@ dead-Inv-loop rivals edges count from to served blocked depth v k s u i₀ i = (
 abbrev dead-μ-loop : dead-lts.MeasureT-loop
 dead-μ-loop rivals edges count from to served blocked depth v k s u i₀ i = count - i
 
+-- ---- places, each from a later one
+abbrev start-from-shared-slice-known : (t : ℕ) → dead-lts.After-shared-slice-known (claims t) (dead-at t) dead.Post dead-Inv-loop dead-μ-loop → dead-lts.Start (claims t) (dead-at t) dead.Post dead-Inv-loop dead-μ-loop
+start-from-shared-slice-known t c = c .before
+
+abbrev start-from-in-word : (t : ℕ) → dead-lts.After-in-word (claims t) (dead-at t) dead.Post dead-Inv-loop dead-μ-loop → dead-lts.Start (claims t) (dead-at t) dead.Post dead-Inv-loop dead-μ-loop
+start-from-in-word t c = start-from-shared-slice-known t (c .before .before .before .before .before .before .before)
+
+abbrev start-from-joined5 : (t : ℕ) → dead-lts.Joined5 (claims t) (dead-at t) dead.Post dead-Inv-loop dead-μ-loop → dead-lts.Start (claims t) (dead-at t) dead.Post dead-Inv-loop dead-μ-loop
+start-from-joined5 t c = start-from-in-word t (c .before .before .before .before .before .before .before)
+
+abbrev idle-from-in-word : (t : ℕ) → dead-lts.After-in-word (claims t) (dead-at t) dead.Post dead-Inv-loop dead-μ-loop → dead-lts.After-idle (claims t) (dead-at t) dead.Post dead-Inv-loop dead-μ-loop
+idle-from-in-word t c = c .before .before .before .before
+
+abbrev idle-from-joined5 : (t : ℕ) → dead-lts.Joined5 (claims t) (dead-at t) dead.Post dead-Inv-loop dead-μ-loop → dead-lts.After-idle (claims t) (dead-at t) dead.Post dead-Inv-loop dead-μ-loop
+idle-from-joined5 t c = idle-from-in-word t (c .before .before .before .before .before .before .before)
+
+abbrev fewest-from-in-word : (t : ℕ) → dead-lts.After-in-word (claims t) (dead-at t) dead.Post dead-Inv-loop dead-μ-loop → dead-lts.After-fewest (claims t) (dead-at t) dead.Post dead-Inv-loop dead-μ-loop
+fewest-from-in-word t c = c .before .before .before
+
+abbrev fewest-from-joined5 : (t : ℕ) → dead-lts.Joined5 (claims t) (dead-at t) dead.Post dead-Inv-loop dead-μ-loop → dead-lts.After-fewest (claims t) (dead-at t) dead.Post dead-Inv-loop dead-μ-loop
+fewest-from-joined5 t c = fewest-from-in-word t (c .before .before .before .before .before .before .before)
+
+abbrev start-from-loop : (t : ℕ) → dead-lts.After-loop (claims t) (dead-at t) dead.Post dead-Inv-loop dead-μ-loop → dead-lts.Start (claims t) (dead-at t) dead.Post dead-Inv-loop dead-μ-loop
+start-from-loop t c = start-from-in-word t (c .before .before .before .before .before)
+
+abbrev fewest-from-loop : (t : ℕ) → dead-lts.After-loop (claims t) (dead-at t) dead.Post dead-Inv-loop dead-μ-loop → dead-lts.After-fewest (claims t) (dead-at t) dead.Post dead-Inv-loop dead-μ-loop
+fewest-from-loop t c = fewest-from-in-word t (c .before .before .before .before .before)
+
+abbrev idle-from-loop : (t : ℕ) → dead-lts.After-loop (claims t) (dead-at t) dead.Post dead-Inv-loop dead-μ-loop → dead-lts.After-idle (claims t) (dead-at t) dead.Post dead-Inv-loop dead-μ-loop
+idle-from-loop t c = idle-from-in-word t (c .before .before .before .before .before)
+
 dead-returns : (t : ℕ) → dead-lts.Need-returns (claims t) (dead-at t) dead.Post dead-Inv-loop dead-μ-loop
 dead-returns t c = λ z. absurd (false≢true z)
 
@@ -114,10 +145,10 @@ dead-loop-less t c = search needs
 dead-loop-again : (t : ℕ) → dead-lts.Need-loop-again (claims t) (dead-at t) dead.Post dead-Inv-loop dead-μ-loop
 dead-loop-again t c =
     let l = c .before .before .before .loop in
-    let a = c .before .before .before .before .before .before .before .before .before .before .before .before .before .before .before .args in
-    let v = bitOr (a .served) (c .before .before .before .before .before .before .before .before .before .before .before .idle .result) in (
+    let a = start-from-joined5 t c .args in
+    let v = bitOr (a .served) (idle-from-joined5 t c .idle .result) in (
       omega (arith, c .before .before .loop-test .taken),
-      tried (a .rivals .now) (a .edges .now) (a .count) (a .from) (a .to) (bitOr v (c .before .before .before .before .bit-of .result)) (a .blocked) (getD (a .edges .now) (c .before .before .before .before .before .before .before .before .before .before .fewest .result) 0) (l .i) (l .inv .1)
+      tried (a .rivals .now) (a .edges .now) (a .count) (a .from) (a .to) (bitOr v (c .before .before .before .before .bit-of .result)) (a .blocked) (getD (a .edges .now) (fewest-from-joined5 t c .fewest .result) 0) (l .i) (l .inv .1)
           (λ hs hb. ⊎-elim (λ w. w .4 .ensures (not-false _ (w .5 .left)))
           (⊎-elim (λ w. absurd (false≢true (sym hb ∙ sym (w .1 .ensures) ∙ not-false _ (w .2 .left))))
           (λ w. absurd (false≢true (sym (w .left) ∙ c .before .in-word2 .ensures ∙ hs)))) (c .if5 .came)),
@@ -126,9 +157,9 @@ dead-loop-again t c =
 dead-returns-6 : (t : ℕ) → dead-lts.Need-returns-6 (claims t) (dead-at t) dead.Post dead-Inv-loop dead-μ-loop
 dead-returns-6 t c = λ z.
     let l = c .before .loop in
-    let a = c .before .before .before .before .before .before .before .before .before .before .before .before .before .args in
-    let k = c .before .before .before .before .before .before .before .before .fewest .result in
-    let x = c .before .before .before .before .before .before .before .before .before .idle .result in
+    let a = start-from-loop t c .args in
+    let k = fewest-from-loop t c .fewest .result in
+    let x = idle-from-loop t c .idle .result in
     dead-drop (a .rivals .now) (a .edges .now) (a .count) (a .from) (a .to) (a .served) x (a .blocked)
     (tried-all (a .rivals .now) (a .edges .now) (a .count) (a .from) (a .to) (bitOr (a .served) x) (c .before .before .bit-of .result) (a .blocked) k (l .i)
     (record {

@@ -1,12 +1,12 @@
 -- `offers_ahead::idle` meets its contract: safety alone. Assumes nothing.
 use Prim.Native.Nat.{_-_}
 use borrow.Author.Needs.{needs}
-use Rattle.offers_ahead.specs.Dead.{Room}
+use Rattle.offers_ahead.specs.Dead.{AheadRoom}
 use Rattle.offers_ahead.proofs.idle.Statement.{statement}
 use Rattle.offers_ahead.proofs.idle.Tie as tie
 
 abbrev Inv-loop : tie.InvT-loop
-Inv-loop rivals edges count from to served blocked x₀ k₀ x k = Room rivals edges count to
+Inv-loop rivals edges count from to served blocked x₀ k₀ x k = AheadRoom rivals edges count to
 
 abbrev μ-loop : tie.MeasureT-loop
 μ-loop rivals edges count from to served blocked x₀ k₀ x k = to - k

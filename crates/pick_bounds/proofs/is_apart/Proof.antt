@@ -13,6 +13,13 @@ Inv-loop net c left₀ left = Parted net c left
 abbrev μ-loop : tie.MeasureT-loop
 μ-loop net c left₀ left = left
 
+-- ---- places, each from a later one
+abbrev start-from-shared-slice-known : tie.After-shared-slice-known Inv-loop μ-loop → tie.Start Inv-loop μ-loop
+start-from-shared-slice-known c = c .before
+
+abbrev start-from-without : tie.After-without Inv-loop μ-loop → tie.Start Inv-loop μ-loop
+start-from-without c = start-from-shared-slice-known (c .before .before .before .before .before .before .before)
+
 loop-holds : tie.Need-loop-holds Inv-loop μ-loop
 loop-holds c = parted-none (c .before .args .net .now) (c .before .args .c)
 
@@ -36,7 +43,7 @@ loop-less : tie.Need-loop-less Inv-loop μ-loop
 loop-less c = less-left (c .before .before .before .before .before .before .loop .left) (c .before .before .before .before .first-of .result) (c .without .result) (search needs) (c .before .before .before .before .first-of .ensures .1) (rw (sym (c .before .end-of .ensures)) (c .without .ensures))
 
 loop-again : tie.Need-loop-again Inv-loop μ-loop
-loop-again c = let a = c .before .before .before .before .before .before .before .before .args in
+loop-again c = let a = start-from-without c .args in
     parted-more (a .net .now) (a .c) (c .before .before .before .before .before .before .loop .left) (c .before .before .before .before .first-of .result) (c .without .result) (c .before .before .before .before .before .before .loop .inv) (sym (c .before .before .before .is-rivalled .ensures) ∙ c .before .before .if1 .left) (rw (sym (c .before .end-of .ensures)) (c .without .ensures))
 
 returns-2 : tie.Need-returns-2 Inv-loop μ-loop

@@ -7,6 +7,13 @@ use borrow.Author.Needs.{needs}
 use Rattle.pick_bounds.proofs.obeys.Statement.{statement}
 use Rattle.pick_bounds.proofs.obeys.Tie as tie
 
+-- ---- places, each from a later one
+abbrev start-from-meets : tie.After-meets → tie.Start
+start-from-meets c = c .before
+
+abbrev start-from-struct-known2 : tie.After-struct-known2 → tie.Start
+start-from-struct-known2 c = start-from-meets (c .before .before .before .before .before .before .before)
+
 meets-requires : tie.Need-meets-requires
 meets-requires c κs = search needs
 
@@ -29,7 +36,7 @@ held-requires : tie.Need-held-requires
 held-requires c κs = search needs
 
 returns-4 : tie.Need-returns-4
-returns-4 c = let a = c .before .before .before .before .before .before .before .before .args in
+returns-4 c = let a = start-from-struct-known2 c .args in
     sym (obeys-full 32 (a .rule) (a .c) (sym (c .before .before .before .before .before .before .before .meets .ensures) ∙ not-false _ (c .before .before .before .before .before .before .if1 .left)) (sym (c .before .before .before .before .before .has-least .ensures) ∙ not-false _ (c .before .before .before .before .if2 .left)) _ (c .before .held .ensures))
 
 pub obeys-spec : {M : Type 1} → statement M

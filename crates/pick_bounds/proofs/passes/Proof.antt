@@ -19,6 +19,19 @@ Inv-loop net c n i₀ i = (i ≤ n) × ((j : ℕ) → j < i → obeys 32 (ruleAt
 abbrev μ-loop : tie.MeasureT-loop
 μ-loop net c n i₀ i = n - i
 
+-- ---- places, each from a later one
+abbrev start-from-is-apart : tie.After-is-apart Inv-loop μ-loop → tie.Start Inv-loop μ-loop
+start-from-is-apart c = c .before .before .before .before
+
+abbrev start-from-then3 : tie.Then3 Inv-loop μ-loop → tie.Start Inv-loop μ-loop
+start-from-then3 c = start-from-is-apart (c .before .before .before .before .before .before .before)
+
+abbrev start-from-else3 : tie.Else3 Inv-loop μ-loop → tie.Start Inv-loop μ-loop
+start-from-else3 c = start-from-is-apart (c .before .before .before .before .before .before .before)
+
+abbrev start-from-loop : tie.After-loop Inv-loop μ-loop → tie.Start Inv-loop μ-loop
+start-from-loop c = start-from-is-apart (c .before .before .before .before)
+
 has-least-requires : tie.Need-has-least-requires Inv-loop μ-loop
 has-least-requires c κs = search needs
 
@@ -48,7 +61,7 @@ obeys-requires : tie.Need-obeys-requires Inv-loop μ-loop
 obeys-requires c κs = search needs
 
 returns-3 : tie.Need-returns-3 Inv-loop μ-loop
-returns-3 c = let a = c .before .before .before .before .before .before .before .before .before .before .before .args in
+returns-3 c = let a = start-from-then3 c .args in
     let l = c .before .before .before .before .loop in
     let t = c .before .before .before .loop-test .taken in
     sym (passes-broken (a .net .now) (a .want) 32 (a .c) (l .i) (omega (arith, c .before .before .before .before .before .size .ensures)) (c .before .before .rule-at .result) (c .before .before .rule-at .ensures) (sym (c .before .obeys .ensures) ∙ not-true _ (c .if3 .taken)))
@@ -60,10 +73,10 @@ loop-less : tie.Need-loop-less Inv-loop μ-loop
 loop-less c = search needs
 
 loop-again : tie.Need-loop-again Inv-loop μ-loop
-loop-again c = (search needs, below-more _ _ (c .before .before .before .before .loop .inv .1) (ap (λ (r : Rule). obeys 32 r (c .before .before .before .before .before .before .before .before .before .before .before .args .c)) (sym (c .before .before .rule-at .ensures)) ∙ sym (c .before .obeys .ensures) ∙ not-false _ (c .if3 .left)))
+loop-again c = (search needs, below-more _ _ (c .before .before .before .before .loop .inv .1) (ap (λ (r : Rule). obeys 32 r (start-from-else3 c .args .c)) (sym (c .before .before .rule-at .ensures)) ∙ sym (c .before .obeys .ensures) ∙ not-false _ (c .if3 .left)))
 
 returns-4 : tie.Need-returns-4 Inv-loop μ-loop
-returns-4 c = let a = c .before .before .before .before .before .before .before .before .args in
+returns-4 c = let a = start-from-loop c .args in
     let l = c .before .loop in
     let z = leb-true (a .want .least) (held 32 (a .c) (a .want .ends)) (sym (c .before .before .before .before .before .before .has-least .ensures) ∙ not-false _ (c .before .before .before .before .before .if1 .left)) in
     let t = c .loop-test .left in

@@ -11,6 +11,13 @@ Inv-loop net want low₀ before₀ after₀ low before after = Keeps (good net w
 abbrev μ-loop : tie.MeasureT-loop
 μ-loop net want low₀ before₀ after₀ low before after = before
 
+-- ---- places, each from a later one
+abbrev start-from-shun : tie.After-shun Inv-loop μ-loop → tie.Start Inv-loop μ-loop
+start-from-shun c = c .before .before
+
+abbrev start-from-slack3 : tie.After-slack3 Inv-loop μ-loop → tie.Start Inv-loop μ-loop
+start-from-slack3 c = start-from-shun (c .before .before .before .before .before .before .before)
+
 shun-requires : tie.Need-shun-requires Inv-loop μ-loop
 shun-requires c κs = search needs
 
@@ -36,7 +43,7 @@ loop-less : tie.Need-loop-less Inv-loop μ-loop
 loop-less c = search needs
 
 loop-again : tie.Need-loop-again Inv-loop μ-loop
-loop-again c = let a = c .before .before .before .before .before .before .before .before .before .args in
+loop-again c = let a = start-from-slack3 c .args in
     let l = c .before .before .before .loop in
     keeps-then (good (a .net .now) (a .want)) (c .before .before .before .before .before .before .tighten .result) (l .low) (c .before .tighten2 .result) (l .inv) (c .before .tighten2 .ensures)
 

@@ -13,6 +13,25 @@ Inv-loop net want low₀ n i₀ low i = (i ≤ n) × Keeps (good net want) low�
 abbrev μ-loop : tie.MeasureT-loop
 μ-loop net want low₀ n i₀ low i = n - i
 
+-- ---- places, each from a later one
+abbrev start-from-shared-slice-known : tie.After-shared-slice-known Inv-loop μ-loop → tie.Start Inv-loop μ-loop
+start-from-shared-slice-known c = c .before
+
+abbrev start-from-then1 : tie.Then1 Inv-loop μ-loop → tie.Start Inv-loop μ-loop
+start-from-then1 c = start-from-shared-slice-known (c .before .before .before .before .before .before .before)
+
+abbrev start-from-size : tie.After-size Inv-loop μ-loop → tie.Start Inv-loop μ-loop
+start-from-size c = c .before .before .before .before
+
+abbrev start-from-spread2 : tie.After-spread2 Inv-loop μ-loop → tie.Start Inv-loop μ-loop
+start-from-spread2 c = start-from-size (c .before .before .before .before .before .before .before)
+
+abbrev spread-from-size : tie.After-size Inv-loop μ-loop → tie.After-spread Inv-loop μ-loop
+spread-from-size c = c .before
+
+abbrev spread-from-spread2 : tie.After-spread2 Inv-loop μ-loop → tie.After-spread Inv-loop μ-loop
+spread-from-spread2 c = spread-from-size (c .before .before .before .before .before .before .before)
+
 ask-requires : tie.Need-ask-requires Inv-loop μ-loop
 ask-requires c κs = search needs
 
@@ -30,7 +49,7 @@ is-dead-requires : tie.Need-is-dead-requires Inv-loop μ-loop
 is-dead-requires c κs = search needs
 
 returns : tie.Need-returns Inv-loop μ-loop
-returns c = let a = c .before .before .before .before .before .before .before .before .args in
+returns c = let a = start-from-then1 c .args in
     let b = c .before .before .before .before .before .before .ask .result in
     let d = c .before .before .before .before .before .spread .result in
     let g = good (a .net .now) (a .want) in
@@ -52,12 +71,12 @@ loop-less : tie.Need-loop-less Inv-loop μ-loop
 loop-less c = search needs
 
 loop-again : tie.Need-loop-again Inv-loop μ-loop
-loop-again c = let a = c .before .before .before .before .before .before .before .before .before .before .before .args in
+loop-again c = let a = start-from-spread2 c .args in
     let l = c .before .before .before .before .before .before .loop in
     let g = good (a .net .now) (a .want) in
     let t = c .before .before .before .before .before .loop-test .taken in (
       search needs,
-      keeps-then g (c .before .before .before .before .before .before .before .before .spread .result) (l .low) (c .spread2 .result) (l .inv .1)
+      keeps-then g (spread-from-spread2 c .spread .result) (l .low) (c .spread2 .result) (l .inv .1)
           (keeps-then g (l .low) (c .before .draw .result) (c .spread2 .result)
           (keeps-rule (a .net .now) (a .want) (l .low) (l .i) (omega (arith, c .before .before .before .before .before .before .before .size .ensures)) (c .before .before .rule-at .result) (c .before .before .rule-at .ensures) (c .before .draw .result) (c .before .draw .ensures))
           (c .spread2 .ensures (a .want))),

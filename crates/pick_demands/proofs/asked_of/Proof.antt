@@ -4,14 +4,14 @@ use Prim.Native.Nat.{ℕ, _-_, _≤_}
 use native.Mathlib.Omega.{arith}
 use Rattle.pick_bounds.specs.declared.Bounds.{Bounds}
 use Rattle.pick_bounds.specs.Bounds.{Part}
-use Rattle.pick_demands.specs.Demands.{Asks, Listed}
+use Rattle.pick_demands.specs.Demands.{Asks, DemandsListed}
 use Rattle.pick_demands.proofs.Demands.{asks-none, part-none}
 use borrow.Author.Needs.{needs}
 use Rattle.pick_demands.proofs.asked_of.Statement.{statement}
 use Rattle.pick_demands.proofs.asked_of.Tie as tie
 
 abbrev Inv-loop : tie.InvT-loop
-Inv-loop list count of all₀ i₀ all i = (i ≤ count) × ((p : ℕ → Bool) (b : Bounds) → Listed p b list count → Asks p b (all .ends) (all .least)) × Part (all .ends) of
+Inv-loop list count of all₀ i₀ all i = (i ≤ count) × ((p : ℕ → Bool) (b : Bounds) → DemandsListed p b list count → Asks p b (all .ends) (all .least)) × Part (all .ends) of
 
 abbrev μ-loop : tie.MeasureT-loop
 μ-loop list count of all₀ i₀ all i = i

@@ -14,6 +14,13 @@ Inv-loop net ends h₀ h = (want : Wanted) → Huddled (good net want) h
 abbrev μ-loop : tie.MeasureT-loop
 μ-loop net ends h₀ h = h .common
 
+-- ---- places, each from a later one
+abbrev start-from-shared-slice-known : tie.After-shared-slice-known Inv-loop μ-loop → tie.Start Inv-loop μ-loop
+start-from-shared-slice-known c = c .before
+
+abbrev start-from-admit : tie.After-admit Inv-loop μ-loop → tie.Start Inv-loop μ-loop
+start-from-admit c = start-from-shared-slice-known (c .before .before .before .before .before .before .before)
+
 loop-holds : tie.Need-loop-holds Inv-loop μ-loop
 loop-holds c = let a = c .before .args in
     λ want. huddled-none (good (a .net .now) want) (a .ends)
@@ -37,7 +44,7 @@ loop-less : tie.Need-loop-less Inv-loop μ-loop
 loop-less c = c .admit .ensures .1 (c .before .before .before .first-of .ensures .1)
 
 loop-again : tie.Need-loop-again Inv-loop μ-loop
-loop-again c = let net = c .before .before .before .before .before .before .before .before .args .net .now in
+loop-again c = let net = start-from-admit c .args .net .now in
     let l = c .before .before .if2 .left in
     λ want. c .admit .ensures .0 (good net want) (shuns-net net want (c .before .before .before .first-of .result) (omega arith)) (c .before .before .before .before .before .before .loop .inv want)
 

@@ -9,6 +9,13 @@ use Rattle.pick_demands.proofs.Demands.{over-taken, over-asked}
 use Rattle.pick_demands.proofs.is_over.Statement.{statement}
 use Rattle.pick_demands.proofs.is_over.Tie as tie
 
+-- ---- places, each from a later one
+abbrev start-from-shared-slice-known : tie.After-shared-slice-known → tie.Start
+start-from-shared-slice-known c = c .before
+
+abbrev start-from-struct-known : tie.After-struct-known → tie.Start
+start-from-struct-known c = start-from-shared-slice-known (c .before .before .before .before .before .before .before)
+
 held-requires : tie.Need-held-requires
 held-requires c κs = search needs
 
@@ -31,7 +38,7 @@ asked-of-requires : tie.Need-asked-of-requires
 asked-of-requires c κs = search needs
 
 returns-3 : tie.Need-returns-3
-returns-3 c = let a = c .before .before .before .before .before .before .before .before .args in
+returns-3 c = let a = start-from-struct-known c .args in
     let must = c .before .before .before .before .held2 in
     let rest = c .before .before .without in
     let asked = c .before .asked-of in

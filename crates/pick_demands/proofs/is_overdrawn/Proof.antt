@@ -4,16 +4,26 @@ use Prim.Native.Nat.{_-_, _≤_}
 use borrow.Author.Needs.{needs}
 use Rattle.pick_bounds.specs.declared.Wanted.{Wanted}
 use Rattle.pick_bounds.specs.Bounds.{good}
-use Rattle.pick_demands.specs.Demands.{Caps, Listed}
+use Rattle.pick_demands.specs.Demands.{Caps, DemandsListed}
 use Rattle.pick_demands.proofs.Demands.{caps-none, obeying}
 use Rattle.pick_demands.proofs.is_overdrawn.Statement.{statement}
 use Rattle.pick_demands.proofs.is_overdrawn.Tie as tie
 
 abbrev Inv-loop : tie.InvT-loop
-Inv-loop net b list count all₀ n i₀ all i = (i ≤ n) × ((want : Wanted) → Listed (good net want) b list count → Caps (good net want) b (all .ends) (all .most))
+Inv-loop net b list count all₀ n i₀ all i = (i ≤ n) × ((want : Wanted) → DemandsListed (good net want) b list count → Caps (good net want) b (all .ends) (all .most))
 
 abbrev μ-loop : tie.MeasureT-loop
 μ-loop net b list count all₀ n i₀ all i = n - i
+
+-- ---- places, each from a later one
+abbrev start-from-size : tie.After-size Inv-loop μ-loop → tie.Start Inv-loop μ-loop
+start-from-size c = c .before .before .before
+
+abbrev start-from-then2 : tie.Then2 Inv-loop μ-loop → tie.Start Inv-loop μ-loop
+start-from-then2 c = start-from-size (c .before .before .before .before .before .before .before)
+
+abbrev start-from-joined1 : tie.Joined1 Inv-loop μ-loop → tie.Start Inv-loop μ-loop
+start-from-joined1 c = start-from-size (c .before .before .before .before .before)
 
 size-requires : tie.Need-size-requires Inv-loop μ-loop
 size-requires c κs = search needs
@@ -32,7 +42,7 @@ is-over-requires : tie.Need-is-over-requires Inv-loop μ-loop
 is-over-requires c κs = search needs
 
 returns : tie.Need-returns Inv-loop μ-loop
-returns c = let a = c .before .before .before .before .before .before .before .before .before .before .args in
+returns c = let a = start-from-then2 c .args in
     let rule = c .before .before .before .before .rule-at in
     λ e want f. let p = good (a .net .now) want in c .before .is-over .ensures (c .if2 .taken) p f (c .before .before .before .is-cap .ensures (c .before .before .if1 .taken) p (obeying (a .net .now) want (c .before .before .before .before .before .before .loop .i) (search needs) (rule .result) (rule .ensures)) f)
 
@@ -46,7 +56,7 @@ loop-less : tie.Need-loop-less Inv-loop μ-loop
 loop-less c = search needs
 
 loop-again : tie.Need-loop-again Inv-loop μ-loop
-loop-again c = let a = c .before .before .before .before .before .before .before .before .args in
+loop-again c = let a = start-from-joined1 c .args in
     let l = c .before .before .before .before .loop in
     let rule = c .before .before .rule-at in (
       search needs,

@@ -5,6 +5,13 @@ use Rattle.pick_demands.proofs.Demands.{asks-roused}
 use Rattle.pick_demands.proofs.lack_roused.Statement.{statement}
 use Rattle.pick_demands.proofs.lack_roused.Tie as tie
 
+-- ---- places, each from a later one
+abbrev start-from-shared-slice-known : tie.After-shared-slice-known → tie.Start
+start-from-shared-slice-known c = c .before
+
+abbrev start-from-lacked : tie.After-lacked → tie.Start
+start-from-lacked c = start-from-shared-slice-known (c .before .before .before .before .before .before .before)
+
 has-least-requires : tie.Need-has-least-requires
 has-least-requires c κs = search needs
 
@@ -27,7 +34,7 @@ lacked-requires : tie.Need-lacked-requires
 lacked-requires c κs = search needs
 
 returns-4 : tie.Need-returns-4
-returns-4 c = let a = c .before .before .before .before .before .before .before .before .args in
+returns-4 c = let a = start-from-lacked c .args in
     λ p free o f w. asks-roused p (a .rule) (a .b) (a .list .now) (a .count) o (c .lacked .result) free f (c .before .before .rouses .ensures (not-false _ (c .before .if3 .left))) (c .lacked .ensures) w
 
 pub lack-roused-spec : {M : Type 1} → statement M

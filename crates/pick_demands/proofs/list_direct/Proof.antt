@@ -6,16 +6,35 @@ use lib.ListN.{length}
 use lib.Bits.{bitAnd}
 use borrow.Author.Needs.{needs}
 use Rattle.pick_bounds.specs.Bounds.{good}
-use Rattle.pick_demands.specs.Demands.{Listed}
+use Rattle.pick_demands.specs.Demands.{DemandsListed}
 use Rattle.pick_demands.proofs.Demands.{asks-rule}
 use Rattle.pick_demands.proofs.list_direct.Statement.{statement}
 use Rattle.pick_demands.proofs.list_direct.Tie as tie
 
 abbrev Inv-loop : tie.InvT-loop
-Inv-loop net want b list₀ «open» n count₀ i₀ list count i = (i ≤ n) × (count ≤ 12) × (length list ≡ length list₀) × Listed (good net want) b list count
+Inv-loop net want b list₀ «open» n count₀ i₀ list count i = (i ≤ n) × (count ≤ 12) × (length list ≡ length list₀) × DemandsListed (good net want) b list count
 
 abbrev μ-loop : tie.MeasureT-loop
 μ-loop net want b list₀ «open» n count₀ i₀ list count i = n - i
+
+-- ---- places, each from a later one
+abbrev start-from-in-loop : tie.In-loop Inv-loop μ-loop → tie.Start Inv-loop μ-loop
+start-from-in-loop c = c .before .before .before .before .before .before
+
+abbrev start-from-slice-known2 : tie.After-slice-known2 Inv-loop μ-loop → tie.Start Inv-loop μ-loop
+start-from-slice-known2 c = start-from-in-loop (c .before .before .before .before .before .before .before)
+
+abbrev loop-from-in-loop : tie.In-loop Inv-loop μ-loop → tie.At-loop Inv-loop μ-loop
+loop-from-in-loop c = c .before
+
+abbrev loop-from-slice-known2 : tie.After-slice-known2 Inv-loop μ-loop → tie.At-loop Inv-loop μ-loop
+loop-from-slice-known2 c = loop-from-in-loop (c .before .before .before .before .before .before .before)
+
+abbrev without-from-in-loop : tie.In-loop Inv-loop μ-loop → tie.After-without Inv-loop μ-loop
+without-from-in-loop c = c .before .before .before
+
+abbrev without-from-slice-known2 : tie.After-slice-known2 Inv-loop μ-loop → tie.After-without Inv-loop μ-loop
+without-from-slice-known2 c = without-from-in-loop (c .before .before .before .before .before .before .before)
 
 without-requires : tie.Need-without-requires Inv-loop μ-loop
 without-requires c κs = search needs
@@ -42,11 +61,11 @@ loop-less : tie.Need-loop-less Inv-loop μ-loop
 loop-less c = search needs
 
 loop-again : tie.Need-loop-again Inv-loop μ-loop
-loop-again c = let a = c .before .before .before .before .before .before .before .before .before .before .before .before .before .args in
-    let l = c .before .before .before .before .before .before .before .before .loop in
+loop-again c = let a = start-from-slice-known2 c .args in
+    let l = loop-from-slice-known2 c .loop in
     let rule = c .before .before .before .before .before .before .rule-at in
     let lack = c .before .before .before .lack in
-    let open-ends = c .before .before .before .before .before .before .before .before .before .before .without in
+    let open-ends = without-from-slice-known2 c .without in
     let note = c .before .before .note in
     (search needs, note .ensures .0, search needs, note .ensures .1 (good (a .net .now) (a .want)) (a .b) (l .inv .3) (asks-rule (a .net .now) (a .want) (a .b) (l .i) (search needs) (rule .result) (rule .ensures) (bitAnd (open-ends .result) (rule .result .only)) (lack .result) (lack .ensures (open-ends .result) (open-ends .ensures))))
 

@@ -20,6 +20,31 @@ Inv-loop net₀ count t table ends node parents makers rows r₀ z₀ net r z = 
 abbrev μ-loop : tie.MeasureT-loop
 μ-loop net₀ count t table ends node parents makers rows r₀ z₀ net r z = z
 
+-- ---- places, each from a later one
+abbrev start-from-node : tie.After-node Inv-loop μ-loop → tie.Start Inv-loop μ-loop
+start-from-node c = c .before .before .before
+
+abbrev start-from-makers2 : tie.After-makers2 Inv-loop μ-loop → tie.Start Inv-loop μ-loop
+start-from-makers2 c = start-from-node (c .before .before .before .before .before .before .before)
+
+abbrev start-from-add-arg : tie.After-add-arg Inv-loop μ-loop → tie.Start Inv-loop μ-loop
+start-from-add-arg c = start-from-makers2 (c .before .before)
+
+abbrev loop-from-node2 : tie.After-node2 Inv-loop μ-loop → tie.At-loop Inv-loop μ-loop
+loop-from-node2 c = c .before .before
+
+abbrev loop-from-slice-known2 : tie.After-slice-known2 Inv-loop μ-loop → tie.At-loop Inv-loop μ-loop
+loop-from-slice-known2 c = loop-from-node2 (c .before .before .before .before .before .before .before)
+
+abbrev start-from-slice-known2 : tie.After-slice-known2 Inv-loop μ-loop → tie.Start Inv-loop μ-loop
+start-from-slice-known2 c = start-from-makers2 (c .before .before .before .before .before)
+
+abbrev in-loop-from-node2 : tie.After-node2 Inv-loop μ-loop → tie.In-loop Inv-loop μ-loop
+in-loop-from-node2 c = c .before
+
+abbrev in-loop-from-slice-known2 : tie.After-slice-known2 Inv-loop μ-loop → tie.In-loop Inv-loop μ-loop
+in-loop-from-slice-known2 c = in-loop-from-node2 (c .before .before .before .before .before .before .before)
+
 -- src/lib.rt:199:5
 loop-holds : tie.Need-loop-holds Inv-loop μ-loop
 loop-holds c = (search needs, refl, from-none _ _)
@@ -43,7 +68,7 @@ slice-aggregate-fork-rule-3 c = search needs
 -- src/lib.rt:201:13
 fork-rule-requires : tie.Need-fork-rule-requires Inv-loop μ-loop
 fork-rule-requires c κs =
-    let p = c .before .before .before .before .before .before .before .before .before .before .pre in
+    let p = start-from-makers2 c .pre in
     let o = p .3 in
     let e = p .4 in (
       p .2,
@@ -58,7 +83,7 @@ fork-rule-requires c κs =
 -- src/lib.rt:202:9
 add-requires : tie.Need-add-requires Inv-loop μ-loop
 add-requires c κs =
-    let p = c .before .before .before .before .before .before .before .before .before .before .before .before .pre in
+    let p = start-from-add-arg c .pre in
     let l = c .before .before .before .before .before .before .loop in
     (omega (arith, p .0, l .inv .2 .few, l .inv .0, c .before .before .before .before .before .loop-test .taken), le-trans (p .1) (le-of-eq (sym (l .inv .1))))
 
@@ -69,11 +94,11 @@ loop-less c = search needs
 -- src/lib.rt:199:5
 loop-again : tie.Need-loop-again Inv-loop μ-loop
 loop-again c =
-    let l = c .before .before .before .before .before .before .before .before .before .loop in
-    let s = c .before .before .before .before .before .before .before .before .before .before .before .before .before .before .before in (
+    let l = loop-from-slice-known2 c .loop in
+    let s = start-from-slice-known2 c in (
       search needs,
       omega (arith, c .before .before .add .kept, l .inv .1),
-      from-more _ (l .z) _ (c .before .before .before .before .before .before .before .before .loop-test .taken) (l .inv .0) (l .inv .2)
+      from-more _ (l .z) _ (in-loop-from-slice-known2 c .loop-test .taken) (l .inv .0) (l .inv .2)
           (c .before .before .before .before .fork-rule .ensures) (c .before .before .add .ensures (s .args .ends .count) (omega (arith, s .pre .4 .few))),
     )
 

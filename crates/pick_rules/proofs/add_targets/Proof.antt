@@ -19,18 +19,34 @@ Inv-loop net₀ count t table target by-target by-home stock n r₀ k₀ net r k
 abbrev μ-loop : tie.MeasureT-loop
 μ-loop net₀ count t table target by-target by-home stock n r₀ k₀ net r k = n - k
 
+-- ---- places, each from a later one
+abbrev start-from-slice-known : tie.After-slice-known Inv-loop μ-loop → tie.Start Inv-loop μ-loop
+start-from-slice-known c = c .before
+
+abbrev start-from-in-loop : tie.In-loop Inv-loop μ-loop → tie.Start Inv-loop μ-loop
+start-from-in-loop c = start-from-slice-known (c .before .before .before .before .before .before .before)
+
+abbrev start-from-add-arg : tie.After-add-arg Inv-loop μ-loop → tie.Start Inv-loop μ-loop
+start-from-add-arg c = start-from-in-loop (c .before .before)
+
+abbrev start-from-slice-known2 : tie.After-slice-known2 Inv-loop μ-loop → tie.Start Inv-loop μ-loop
+start-from-slice-known2 c = start-from-in-loop (c .before .before .before .before .before)
+
+abbrev start-from-loop : tie.After-loop Inv-loop μ-loop → tie.Start Inv-loop μ-loop
+start-from-loop c = start-from-slice-known (c .before .before .before .before .before .before .before)
+
 loop-holds : tie.Need-loop-holds Inv-loop μ-loop
 loop-holds c = let a = c .before .before .before .before .before .before .args in (search needs, refl, search needs, λ byEdge edge home runs m. upto-none (targetRow (a .t .now) (a .target .now) home runs (a .stock .now) (a .n)))
 
 target-rule-requires : tie.Need-target-rule-requires Inv-loop μ-loop
 target-rule-requires c κs =
-    let p = c .before .before .before .before .before .before .before .before .pre in
+    let p = start-from-in-loop c .pre in
     let lt = c .loop-test .taken in
     (p .2, omega (arith, p .3, lt), omega (arith, p .4, lt), p .5, p .6, p .7)
 
 add-requires : tie.Need-add-requires Inv-loop μ-loop
 add-requires c κs =
-    let p = c .before .before .before .before .before .before .before .before .before .before .pre in
+    let p = start-from-add-arg c .pre in
     let l = c .before .before .before .loop in
     (omega (arith, p .0, l .inv .2, c .before .before .loop-test .taken), le-trans (p .1) (le-of-eq (sym (l .inv .1))))
 
@@ -43,14 +59,14 @@ loop-less c = search needs
 loop-again : tie.Need-loop-again Inv-loop μ-loop
 loop-again c =
     let l = c .before .before .before .before .before .before .loop in
-    let a = c .before .before .before .before .before .before .before .before .before .before .before .before .before .args in
+    let a = start-from-slice-known2 c .args in
     let f = c .before .before .add .ensures in
     let lt = c .before .before .before .before .before .loop-test .taken in (
       search needs,
       omega (arith, c .before .before .add .kept, l .inv .1),
       omega (arith, f 0 (omega arith) .few, l .inv .2),
       λ byEdge edge home runs m. upto-more (targetRow (a .t .now) (a .target .now) home runs (a .stock .now) (a .n)) (l .k) (l .inv .3 byEdge edge home runs m)
-          (c .before .before .before .before .target-rule .ensures byEdge edge home runs (a .n) lt m) (f (a .n) (omega (arith, c .before .before .before .before .before .before .before .before .before .before .before .before .before .pre .4))),
+          (c .before .before .before .before .target-rule .ensures byEdge edge home runs (a .n) lt m) (f (a .n) (omega (arith, start-from-slice-known2 c .pre .4))),
     )
 
 same-length : tie.Need-same-length Inv-loop μ-loop
@@ -59,7 +75,7 @@ same-length c = c .before .loop .inv .1
 returns : tie.Need-returns Inv-loop μ-loop
 returns c =
     let l = c .before .loop in
-    let a = c .before .before .before .before .before .before .before .before .args in
+    let a = start-from-loop c .args in
     let e : l .k ≡ a .n = omega arith in
     (omega (arith, l .inv .2, e), λ byEdge edge home runs m. upto-all (targetRow (a .t .now) (a .target .now) home runs (a .stock .now) (a .n)) e (l .inv .3 byEdge edge home runs m))
 

@@ -10,6 +10,19 @@ use Rattle.pick_rules.proofs.Kept.{edge-bars, edge-manned, edge-elsewhe
 use Rattle.pick_rules.proofs.barred_at_edge.Statement.{statement}
 use Rattle.pick_rules.proofs.barred_at_edge.Tie as tie
 
+-- ---- places, each from a later one
+abbrev start-from-shared-slice-known2 : tie.After-shared-slice-known2 → tie.Start
+start-from-shared-slice-known2 c = c .before .before
+
+abbrev start-from-then2 : tie.Then2 → tie.Start
+start-from-then2 c = start-from-shared-slice-known2 (c .before .before .before .before .before .before .before)
+
+abbrev start-from-else2 : tie.Else2 → tie.Start
+start-from-else2 c = start-from-shared-slice-known2 (c .before .before .before .before .before .before .before)
+
+abbrev start-from-owned : tie.After-owned → tie.Start
+start-from-owned c = start-from-else2 (c .before)
+
 mul-if1 : tie.Need-mul-if1
 mul-if1 c = search needs
 
@@ -29,19 +42,19 @@ kind-requires c κs = let p = c .before .before .before .before .before .before 
 
 returns-2 : tie.Need-returns-2
 returns-2 c = λ edge target home n m.
-    let a = c .before .before .before .before .before .before .before .before .before .args in
+    let a = start-from-then2 c .args in
     bars-none n (edge-elsewhere (a .t .now) edge target home n (a .e) _ (c .before .before .target .ensures .0) (λ e. c .if2 .taken (c .before .kind .ensures .0 ∙ e)))
 
 owned-requires : tie.Need-owned-requires
 owned-requires c κs =
-    let p = c .before .before .before .before .before .before .before .before .before .pre in
-    let f = target-node _ (p .0) (c .before .before .before .before .before .before .before .before .before .args .e) (p .1) in
+    let p = start-from-else2 c .pre in
+    let f = target-node _ (p .0) (start-from-else2 c .args .e) (p .1) in
     (omega (arith, c .before .before .target .ensures .0, p .3), omega (arith, c .before .before .target .ensures .0, p .4))
 
 returns-3 : tie.Need-returns-3
 returns-3 c = λ edge target home n m.
-    let a = c .before .before .before .before .before .before .before .before .before .before .args in
-    let p = c .before .before .before .before .before .before .before .before .before .before .pre in
+    let a = start-from-owned c .args in
+    let p = start-from-owned c .pre in
     let f = target-node _ (p .0) (a .e) (p .1) in
     let v = sym (marks-empty (at-edge m (a .e) (p .1))) ∙ eq-eqb _ 0 (c .before .before .before .before .if1 .left) in
     rw (c .owned .ensures)

@@ -6,13 +6,13 @@ use native.Mathlib.Omega.{arith}
 use borrow.Author.Needs.{needs}
 use Rattle.paper.specs.Lists.{below}
 use Rattle.choice_masks.specs.Masks.{Masks}
-use Rattle.pick_rules.specs.Rules.{onEach, Bars, edgeBar}
+use Rattle.pick_rules.specs.Rules.{onEach, BarredEnds, edgeBar}
 use Rattle.pick_rules.proofs.Masks.{bars-none, bars-more, bars-all}
 use Rattle.pick_rules.proofs.barred_at_edges.Statement.{statement}
 use Rattle.pick_rules.proofs.barred_at_edges.Tie as tie
 
 abbrev Inv-loop : tie.InvT-loop
-Inv-loop t table by-edge by-target by-home most w₀ e₀ w e = (e ≤ most) × ((edge target home : List ℕ) (n : ℕ) → Masks table edge target home n by-edge by-target by-home → Bars n w (onEach (edgeBar t edge target home n) (below e)))
+Inv-loop t table by-edge by-target by-home most w₀ e₀ w e = (e ≤ most) × ((edge target home : List ℕ) (n : ℕ) → Masks table edge target home n by-edge by-target by-home → BarredEnds n w (onEach (edgeBar t edge target home n) (below e)))
 
 abbrev μ-loop : tie.MeasureT-loop
 μ-loop t table by-edge by-target by-home most w₀ e₀ w e = most - e

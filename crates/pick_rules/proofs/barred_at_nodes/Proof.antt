@@ -6,13 +6,13 @@ use native.Mathlib.Omega.{arith}
 use borrow.Author.Needs.{needs}
 use Rattle.paper.specs.Lists.{below}
 use Rattle.choice_masks.specs.Masks.{Masks}
-use Rattle.pick_rules.specs.Rules.{onEach, Bars, nodeBar}
+use Rattle.pick_rules.specs.Rules.{onEach, BarredEnds, nodeBar}
 use Rattle.pick_rules.proofs.Masks.{bars-none, bars-more, bars-all}
 use Rattle.pick_rules.proofs.barred_at_nodes.Statement.{statement}
 use Rattle.pick_rules.proofs.barred_at_nodes.Tie as tie
 
 abbrev Inv-loop : tie.InvT-loop
-Inv-loop t table by-target by-home runs most w₀ i₀ w i = (i ≤ most) × ((byEdge edge target home stock : List ℕ) (n : ℕ) → Masks table edge target home n byEdge by-target by-home → Bars n w (onEach (nodeBar t target home runs stock n) (below i)))
+Inv-loop t table by-target by-home runs most w₀ i₀ w i = (i ≤ most) × ((byEdge edge target home stock : List ℕ) (n : ℕ) → Masks table edge target home n byEdge by-target by-home → BarredEnds n w (onEach (nodeBar t target home runs stock n) (below i)))
 
 abbrev μ-loop : tie.MeasureT-loop
 μ-loop t table by-target by-home runs most w₀ i₀ w i = most - i

@@ -11,6 +11,22 @@ use Rattle.pick_rules.proofs.add_destinations.Reads as add-destinations
 use Rattle.pick_rules.proofs.add_forks.Reads as add-forks-reads
 use Rattle.pick_rules.proofs.fill_rivals.Reads as fill-rivals-reads
 
+-- ---- places, each from a later one
+abbrev start-from-makers : tie.After-makers → tie.Start
+start-from-makers c = c .before .before .before .before
+
+abbrev start-from-add-forks-arg : tie.After-add-forks-arg → tie.Start
+start-from-add-forks-arg c = start-from-makers (c .before .before .before .before .before .before .before)
+
+abbrev start-from-slice-known4 : tie.After-slice-known4 → tie.Start
+start-from-slice-known4 c = start-from-add-forks-arg (c .before .before .before .before .before .before .before)
+
+abbrev fill-rivals-from-add-forks-arg : tie.After-add-forks-arg → tie.After-fill-rivals
+fill-rivals-from-add-forks-arg c = c .before .before .before
+
+abbrev fill-rivals-from-slice-known4 : tie.After-slice-known4 → tie.After-fill-rivals
+fill-rivals-from-slice-known4 c = fill-rivals-from-add-forks-arg (c .before .before .before .before .before .before .before)
+
 -- src/lib.rt:521:22
 slice-aggregate-fill-rivals : tie.Need-slice-aggregate-fill-rivals
 slice-aggregate-fill-rivals c = search needs
@@ -38,12 +54,12 @@ same-length c = search needs
 -- src/lib.rt:508:1
 returns : tie.Need-returns
 returns c =
-    let s = c .before .before .before .before .before .before .before .before .before .before .before .before .before .before .before .before .before .before in
+    let s = start-from-slice-known4 c in
     let a = s .args in
     let forks = c .before .before .before .before .before .before .add-forks .ensures in
     let destinations = c .before .before .add-destinations .ensures in (
       omega (arith, forks .few, destinations .few, s .pre .2 .few),
-      λ room x. filled-says (a .t .now) (a .offers) (a .ends) (a .held .runs) (a .held .kept) x (read-good _ (s .pre .1)) room (c .before .before .before .before .before .before .before .before .before .before .fill-rivals .ensures) forks destinations,
+      λ room x. filled-says (a .t .now) (a .offers) (a .ends) (a .held .runs) (a .held .kept) x (read-good _ (s .pre .1)) room (fill-rivals-from-slice-known4 c .fill-rivals .ensures) forks destinations,
     )
 
 pub fill-spec : {M : Type 1} → statement M

@@ -77,6 +77,172 @@ calls t = (
   after-reads.Learnt,
 )
 
+-- ---- places, each from a later one
+abbrev start-from-is-dead : (t : ℕ) → search-lts.After-is-dead (calls t) (search-at t) search′.Post → search-lts.Start (calls t) (search-at t) search′.Post
+start-from-is-dead t c = c .before .before
+
+abbrev start-from-answer : (t : ℕ) → search-lts.After-answer (calls t) (search-at t) search′.Post → search-lts.Start (calls t) (search-at t) search′.Post
+start-from-answer t c = start-from-is-dead t (c .before .before .before .before .before .before .before)
+
+abbrev start-from-else1 : (t : ℕ) → search-lts.Else1 (calls t) (search-at t) search′.Post → search-lts.Start (calls t) (search-at t) search′.Post
+start-from-else1 t c = c .before .before .before
+
+abbrev start-from-settle : (t : ℕ) → search-lts.After-settle (calls t) (search-at t) search′.Post → search-lts.Start (calls t) (search-at t) search′.Post
+start-from-settle t c = start-from-else1 t (c .before .before .before .before .before .before .before)
+
+abbrev start-from-step : (t : ℕ) → search-lts.After-step (calls t) (search-at t) search′.Post → search-lts.Start (calls t) (search-at t) search′.Post
+start-from-step t c = start-from-settle t (c .before)
+
+abbrev start-from-then3 : (t : ℕ) → search-lts.Then3 (calls t) (search-at t) search′.Post → search-lts.Start (calls t) (search-at t) search′.Post
+start-from-then3 t c = start-from-settle t (c .before .before .before)
+
+abbrev skip-from-struct-known : (t : ℕ) → search-lts.After-struct-known (calls t) (search-at t) search′.Post → search-lts.After-skip (calls t) (search-at t) search′.Post
+skip-from-struct-known t c = c .before .before
+
+abbrev skip-from-then3 : (t : ℕ) → search-lts.Then3 (calls t) (search-at t) search′.Post → search-lts.After-skip (calls t) (search-at t) search′.Post
+skip-from-then3 t c = skip-from-struct-known t (c .before .before .before .before .before .before .before)
+
+abbrev start-from-else3 : (t : ℕ) → search-lts.Else3 (calls t) (search-at t) search′.Post → search-lts.Start (calls t) (search-at t) search′.Post
+start-from-else3 t c = start-from-settle t (c .before .before .before)
+
+abbrev start-from-enum-told : (t : ℕ) → search-lts.After-enum-told (calls t) (search-at t) search′.Post → search-lts.Start (calls t) (search-at t) search′.Post
+start-from-enum-told t c = start-from-step t (c .before .before .before .before .before .before .before)
+
+abbrev skip-from-step : (t : ℕ) → search-lts.After-step (calls t) (search-at t) search′.Post → search-lts.After-skip (calls t) (search-at t) search′.Post
+skip-from-step t c = c .before .before .before .before .before .before .before
+
+abbrev skip-from-enum-told : (t : ℕ) → search-lts.After-enum-told (calls t) (search-at t) search′.Post → search-lts.After-skip (calls t) (search-at t) search′.Post
+skip-from-enum-told t c = skip-from-step t (c .before .before .before .before .before .before .before)
+
+abbrev else2-from-step : (t : ℕ) → search-lts.After-step (calls t) (search-at t) search′.Post → search-lts.Else2 (calls t) (search-at t) search′.Post
+else2-from-step t c = c .before .before .before .before
+
+abbrev else2-from-enum-told : (t : ℕ) → search-lts.After-enum-told (calls t) (search-at t) search′.Post → search-lts.Else2 (calls t) (search-at t) search′.Post
+else2-from-enum-told t c = else2-from-step t (c .before .before .before .before .before .before .before)
+
+abbrev start-from-known-told : (t : ℕ) → search-lts.After-known-told (calls t) (search-at t) search′.Post → search-lts.Start (calls t) (search-at t) search′.Post
+start-from-known-told t c = start-from-enum-told t (c .before .before .before .before)
+
+abbrev skip-from-known-told : (t : ℕ) → search-lts.After-known-told (calls t) (search-at t) search′.Post → search-lts.After-skip (calls t) (search-at t) search′.Post
+skip-from-known-told t c = skip-from-enum-told t (c .before .before .before .before)
+
+abbrev else2-from-known-told : (t : ℕ) → search-lts.After-known-told (calls t) (search-at t) search′.Post → search-lts.Else2 (calls t) (search-at t) search′.Post
+else2-from-known-told t c = else2-from-enum-told t (c .before .before .before .before)
+
+abbrev survey-from-hint-of : (t : ℕ) → search-lts.After-hint-of (calls t) (search-at t) search′.Post → search-lts.After-survey (calls t) (search-at t) search′.Post
+survey-from-hint-of t c = c .before
+
+abbrev survey-from-known-told : (t : ℕ) → search-lts.After-known-told (calls t) (search-at t) search′.Post → search-lts.After-survey (calls t) (search-at t) search′.Post
+survey-from-known-told t c = survey-from-hint-of t (c .before .before .before .before .before .before .before)
+
+abbrev add-from-hint-of : (t : ℕ) → search-lts.After-hint-of (calls t) (search-at t) search′.Post → search-lts.After-add (calls t) (search-at t) search′.Post
+add-from-hint-of t c = c .before .before .before .before .before .before
+
+abbrev add-from-known-told : (t : ℕ) → search-lts.After-known-told (calls t) (search-at t) search′.Post → search-lts.After-add (calls t) (search-at t) search′.Post
+add-from-known-told t c = add-from-hint-of t (c .before .before .before .before .before .before .before)
+
+abbrev settle-from-hint-of : (t : ℕ) → search-lts.After-hint-of (calls t) (search-at t) search′.Post → search-lts.After-settle (calls t) (search-at t) search′.Post
+settle-from-hint-of t c = c .before .before .before .before .before
+
+abbrev settle-from-known-told : (t : ℕ) → search-lts.After-known-told (calls t) (search-at t) search′.Post → search-lts.After-settle (calls t) (search-at t) search′.Post
+settle-from-known-told t c = settle-from-hint-of t (c .before .before .before .before .before .before .before)
+
+abbrev step-from-hint-of : (t : ℕ) → search-lts.After-hint-of (calls t) (search-at t) search′.Post → search-lts.After-step (calls t) (search-at t) search′.Post
+step-from-hint-of t c = c .before .before .before .before
+
+abbrev step-from-known-told : (t : ℕ) → search-lts.After-known-told (calls t) (search-at t) search′.Post → search-lts.After-step (calls t) (search-at t) search′.Post
+step-from-known-told t c = step-from-hint-of t (c .before .before .before .before .before .before .before)
+
+abbrev start-from-states-of2 : (t : ℕ) → search-lts.After-states-of2 (calls t) (search-at t) search′.Post → search-lts.Start (calls t) (search-at t) search′.Post
+start-from-states-of2 t c = start-from-enum-told t (c .before .before .before .before)
+
+abbrev skip-from-states-of2 : (t : ℕ) → search-lts.After-states-of2 (calls t) (search-at t) search′.Post → search-lts.After-skip (calls t) (search-at t) search′.Post
+skip-from-states-of2 t c = skip-from-enum-told t (c .before .before .before .before)
+
+abbrev else2-from-states-of2 : (t : ℕ) → search-lts.After-states-of2 (calls t) (search-at t) search′.Post → search-lts.Else2 (calls t) (search-at t) search′.Post
+else2-from-states-of2 t c = else2-from-enum-told t (c .before .before .before .before)
+
+abbrev survey-from-states-of2 : (t : ℕ) → search-lts.After-states-of2 (calls t) (search-at t) search′.Post → search-lts.After-survey (calls t) (search-at t) search′.Post
+survey-from-states-of2 t c = survey-from-hint-of t (c .before .before .before .before .before .before .before)
+
+abbrev start-from-struct-known3 : (t : ℕ) → search-lts.After-struct-known3 (calls t) (search-at t) search′.Post → search-lts.Start (calls t) (search-at t) search′.Post
+start-from-struct-known3 t c = start-from-step t (c .before .before .before .before .before .before .before)
+
+abbrev skip-from-struct-known3 : (t : ℕ) → search-lts.After-struct-known3 (calls t) (search-at t) search′.Post → search-lts.After-skip (calls t) (search-at t) search′.Post
+skip-from-struct-known3 t c = skip-from-step t (c .before .before .before .before .before .before .before)
+
+abbrev else2-from-struct-known3 : (t : ℕ) → search-lts.After-struct-known3 (calls t) (search-at t) search′.Post → search-lts.Else2 (calls t) (search-at t) search′.Post
+else2-from-struct-known3 t c = else2-from-step t (c .before .before .before .before .before .before .before)
+
+abbrev start-from-strike : (t : ℕ) → search-lts.After-strike (calls t) (search-at t) search′.Post → search-lts.Start (calls t) (search-at t) search′.Post
+start-from-strike t c = start-from-else3 t (c .before .before .before .before .before .before .before)
+
+abbrev start-from-settle2 : (t : ℕ) → search-lts.After-settle2 (calls t) (search-at t) search′.Post → search-lts.Start (calls t) (search-at t) search′.Post
+start-from-settle2 t c = start-from-struct-known3 t (c .before .before .before)
+
+abbrev skip-from-settle2 : (t : ℕ) → search-lts.After-settle2 (calls t) (search-at t) search′.Post → search-lts.After-skip (calls t) (search-at t) search′.Post
+skip-from-settle2 t c = skip-from-struct-known3 t (c .before .before .before)
+
+abbrev else2-from-settle2 : (t : ℕ) → search-lts.After-settle2 (calls t) (search-at t) search′.Post → search-lts.Else2 (calls t) (search-at t) search′.Post
+else2-from-settle2 t c = else2-from-struct-known3 t (c .before .before .before)
+
+abbrev start-from-step2 : (t : ℕ) → search-lts.After-step2 (calls t) (search-at t) search′.Post → search-lts.Start (calls t) (search-at t) search′.Post
+start-from-step2 t c = start-from-struct-known3 t (c .before .before .before .before)
+
+abbrev skip-from-step2 : (t : ℕ) → search-lts.After-step2 (calls t) (search-at t) search′.Post → search-lts.After-skip (calls t) (search-at t) search′.Post
+skip-from-step2 t c = skip-from-struct-known3 t (c .before .before .before .before)
+
+abbrev else2-from-step2 : (t : ℕ) → search-lts.After-step2 (calls t) (search-at t) search′.Post → search-lts.Else2 (calls t) (search-at t) search′.Post
+else2-from-step2 t c = else2-from-struct-known3 t (c .before .before .before .before)
+
+abbrev start-from-row-known : (t : ℕ) → search-lts.After-row-known (calls t) (search-at t) search′.Post → search-lts.Start (calls t) (search-at t) search′.Post
+start-from-row-known t c = start-from-struct-known3 t (c .before .before .before .before .before .before .before)
+
+abbrev skip-from-row-known : (t : ℕ) → search-lts.After-row-known (calls t) (search-at t) search′.Post → search-lts.After-skip (calls t) (search-at t) search′.Post
+skip-from-row-known t c = skip-from-struct-known3 t (c .before .before .before .before .before .before .before)
+
+abbrev else2-from-row-known : (t : ℕ) → search-lts.After-row-known (calls t) (search-at t) search′.Post → search-lts.Else2 (calls t) (search-at t) search′.Post
+else2-from-row-known t c = else2-from-struct-known3 t (c .before .before .before .before .before .before .before)
+
+abbrev at-match-came-from-struct-known3 : (t : ℕ) → search-lts.After-struct-known3 (calls t) (search-at t) search′.Post → search-lts.At-match-came (calls t) (search-at t) search′.Post
+at-match-came-from-struct-known3 t c = c .before
+
+abbrev at-match-came-from-row-known : (t : ℕ) → search-lts.After-row-known (calls t) (search-at t) search′.Post → search-lts.At-match-came (calls t) (search-at t) search′.Post
+at-match-came-from-row-known t c = at-match-came-from-struct-known3 t (c .before .before .before .before .before .before .before)
+
+abbrev start-from-else4 : (t : ℕ) → search-lts.Else4 (calls t) (search-at t) search′.Post → search-lts.Start (calls t) (search-at t) search′.Post
+start-from-else4 t c = start-from-struct-known3 t (c .before .before .before .before .before .before)
+
+abbrev skip-from-else4 : (t : ℕ) → search-lts.Else4 (calls t) (search-at t) search′.Post → search-lts.After-skip (calls t) (search-at t) search′.Post
+skip-from-else4 t c = skip-from-struct-known3 t (c .before .before .before .before .before .before)
+
+abbrev else2-from-else4 : (t : ℕ) → search-lts.Else4 (calls t) (search-at t) search′.Post → search-lts.Else2 (calls t) (search-at t) search′.Post
+else2-from-else4 t c = else2-from-struct-known3 t (c .before .before .before .before .before .before)
+
+abbrev start-from-search2 : (t : ℕ) → search-lts.After-search2 (calls t) (search-at t) search′.Post → search-lts.Start (calls t) (search-at t) search′.Post
+start-from-search2 t c = start-from-struct-known3 t (c .before .before .before .before .before .before .before)
+
+abbrev skip-from-search2 : (t : ℕ) → search-lts.After-search2 (calls t) (search-at t) search′.Post → search-lts.After-skip (calls t) (search-at t) search′.Post
+skip-from-search2 t c = skip-from-struct-known3 t (c .before .before .before .before .before .before .before)
+
+abbrev else2-from-search2 : (t : ℕ) → search-lts.After-search2 (calls t) (search-at t) search′.Post → search-lts.Else2 (calls t) (search-at t) search′.Post
+else2-from-search2 t c = else2-from-struct-known3 t (c .before .before .before .before .before .before .before)
+
+abbrev at-match-came-from-search2 : (t : ℕ) → search-lts.After-search2 (calls t) (search-at t) search′.Post → search-lts.At-match-came (calls t) (search-at t) search′.Post
+at-match-came-from-search2 t c = at-match-came-from-struct-known3 t (c .before .before .before .before .before .before .before)
+
+abbrev start-from-after : (t : ℕ) → search-lts.After-after (calls t) (search-at t) search′.Post → search-lts.Start (calls t) (search-at t) search′.Post
+start-from-after t c = start-from-strike t (c .before .before .before .before .before .before)
+
+abbrev skip-from-after : (t : ℕ) → search-lts.After-after (calls t) (search-at t) search′.Post → search-lts.After-skip (calls t) (search-at t) search′.Post
+skip-from-after t c = skip-from-settle2 t (c .before .before .before .before .before)
+
+abbrev else2-from-after : (t : ℕ) → search-lts.After-after (calls t) (search-at t) search′.Post → search-lts.Else2 (calls t) (search-at t) search′.Post
+else2-from-after t c = else2-from-settle2 t (c .before .before .before .before .before)
+
+abbrev at-match-came-from-after : (t : ℕ) → search-lts.After-after (calls t) (search-at t) search′.Post → search-lts.At-match-came (calls t) (search-at t) search′.Post
+at-match-came-from-after t c = at-match-came-from-search2 t (c .before)
+
 search-is-dead-requires : (t : ℕ) → search-lts.Need-is-dead-requires (calls t) (search-at t) search′.Post
 search-is-dead-requires t c κs = search needs
 
@@ -95,8 +261,8 @@ search-answer-requires : (t : ℕ) → search-lts.Need-answer-requires (calls t)
 search-answer-requires t c κs = search needs
 
 search-returns-2 : (t : ℕ) → search-lts.Need-returns-2 (calls t) (search-at t) search′.Post
-search-returns-2 t c = let a = c .before .before .before .before .before .before .before .before .before .args in
-    let pre = c .before .before .before .before .before .before .before .before .before .pre .1 in
+search-returns-2 t c = let a = start-from-answer t c .args in
+    let pre = start-from-answer t c .pre .1 in
     let s = c .before .before .before .before .before .skip in
     let w = (good (a .net .now) (a .want)) in
     visited-skip w (a .m) (a .left) (a .p) (a .b) (s .result) _ (s .ensures .0) (s .ensures .2 w)
@@ -112,8 +278,8 @@ search-settle-requires : (t : ℕ) → search-lts.Need-settle-requires (calls t)
 search-settle-requires t c κs = search needs
 
 search-step-requires : (t : ℕ) → search-lts.Need-step-requires (calls t) (search-at t) search′.Post
-search-step-requires t c κs = let a = c .before .before .before .before .before .before .before .before .before .before .args in
-    let pre = c .before .before .before .before .before .before .before .before .before .before .pre .1 in
+search-step-requires t c κs = let a = start-from-settle t c .args in
+    let pre = start-from-settle t c .pre .1 in
     let s = c .before .before .before .before .before .before .skip in
     let w = (good (a .net .now) (a .want)) in
     let nz = c .before .before .before .if2 .left in
@@ -122,8 +288,8 @@ search-step-requires t c κs = let a = c .before .before .before .before .before
     (small-weight (a .m) (s .result .left) (s .result .place) placed (omega arith) most, placed .small, omega arith)
 
 search-is-first-requires : (t : ℕ) → search-lts.Need-is-first-requires (calls t) (search-at t) search′.Post
-search-is-first-requires t c κs = let a = c .before .before .before .before .before .before .before .before .before .before .before .args in
-    let pre = c .before .before .before .before .before .before .before .before .before .before .before .pre .1 in
+search-is-first-requires t c κs = let a = start-from-step t c .args in
+    let pre = start-from-step t c .pre .1 in
     let s = c .before .before .before .before .before .before .before .skip in
     let w = (good (a .net .now) (a .want)) in
     let nz = c .before .before .before .before .if2 .left in
@@ -133,9 +299,9 @@ search-is-first-requires t c κs = let a = c .before .before .before .before .be
     (pre .0, most, omega (arith, ap (λ (p : Place). p .bit) e, placed .small))
 
 search-returns-3 : (t : ℕ) → search-lts.Need-returns-3 (calls t) (search-at t) search′.Post
-search-returns-3 t c = let a = c .before .before .before .before .before .before .before .before .before .before .before .before .before .args in
-    let pre = c .before .before .before .before .before .before .before .before .before .before .before .before .before .pre .1 in
-    let s = c .before .before .before .before .before .before .before .before .before .skip in
+search-returns-3 t c = let a = start-from-then3 t c .args in
+    let pre = start-from-then3 t c .pre .1 in
+    let s = skip-from-then3 t c .skip in
     let w = (good (a .net .now) (a .want)) in
     let nz = c .before .before .before .before .before .before .if2 .left in
     let most = pre .1 in
@@ -145,7 +311,7 @@ search-returns-3 t c = let a = c .before .before .before .before .before .before
     (finds-first w (a .m) (s .result .left) (s .result .place) (a .b) placed most (omega arith) (c .before .before .before .before .add .result) (c .before .before .before .settle .result) (c .before .before .before .before .add .ensures) (c .before .before .before .settle .ensures) (g .0) (g .1) (g .2))
 
 search-survey-requires : (t : ℕ) → search-lts.Need-survey-requires (calls t) (search-at t) search′.Post
-search-survey-requires t c κs = let pre = c .before .before .before .before .before .before .before .before .before .before .before .before .before .pre .1 in (pre .0, pre .1)
+search-survey-requires t c κs = let pre = start-from-else3 t c .pre .1 in (pre .0, pre .1)
 
 search-hint-of-requires : (t : ℕ) → search-lts.Need-hint-of-requires (calls t) (search-at t) search′.Post
 search-hint-of-requires t c κs = search needs
@@ -157,45 +323,45 @@ search-enum-told : (t : ℕ) → search-lts.Need-enum-told (calls t) (search-at 
 search-enum-told t c = search needs
 
 search-search-requires : (t : ℕ) → search-lts.Need-search-requires (calls t) (search-at t) search′.Post
-search-search-requires t c κs = let a = c .before .before .before .before .before .before .before .before .before .before .before .before .before .before .before .before .before .before .args in
-    let pre = c .before .before .before .before .before .before .before .before .before .before .before .before .before .before .before .before .before .before .pre .1 in
-    let s = c .before .before .before .before .before .before .before .before .before .before .before .before .before .before .skip in
+search-search-requires t c κs = let a = start-from-enum-told t c .args in
+    let pre = start-from-enum-told t c .pre .1 in
+    let s = skip-from-enum-told t c .skip in
     let w = (good (a .net .now) (a .want)) in
-    let nz = c .before .before .before .before .before .before .before .before .before .before .before .if2 .left in
+    let nz = else2-from-enum-told t c .if2 .left in
     let most = pre .1 in
     let placed = s .ensures .1 in
     let e = c .before .before .before .before .before .before .before .step .ensures in
-    (omega (arith, s .ensures .0, c .before .before .before .before .before .before .before .before .before .before .before .before .before .before .before .before .before .before .pre .0), (pre .0, most, rw e (placed-taking (a .m) (s .result .left) (s .result .place) placed (omega arith))))
+    (omega (arith, s .ensures .0, start-from-enum-told t c .pre .0), (pre .0, most, rw e (placed-taking (a .m) (s .result .left) (s .result .place) placed (omega arith))))
 
 search-enum-known-f : (t : ℕ) → search-lts.Need-enum-known-f (calls t) (search-at t) search′.Post
 search-enum-known-f t c = search needs
 
 search-add-t28 : (t : ℕ) → search-lts.Need-add-t28 (calls t) (search-at t) search′.Post
-search-add-t28 t c = let a = c .before .before .before .before .before .before .before .before .before .before .before .before .before .before .before .before .before .before .before .before .before .before .args in
-    let pre = c .before .before .before .before .before .before .before .before .before .before .before .before .before .before .before .before .before .before .before .before .before .before .pre .1 in
-    let s = c .before .before .before .before .before .before .before .before .before .before .before .before .before .before .before .before .before .before .skip in
+search-add-t28 t c = let a = start-from-known-told t c .args in
+    let pre = start-from-known-told t c .pre .1 in
+    let s = skip-from-known-told t c .skip in
     let w = (good (a .net .now) (a .want)) in
-    let nz = c .before .before .before .before .before .before .before .before .before .before .before .before .before .before .before .if2 .left in
+    let nz = else2-from-known-told t c .if2 .left in
     let most = pre .1 in
     let placed = s .ensures .1 in
     let f = c .before .before .before .search .ensures .most-seen in
     let e = ap seen (c .before .f .given .1) in
     let q = c .before .before .before .before .before .before .states-of .ensures in
-    let v = c .before .before .before .before .before .before .before .before .survey .ensures .most-seen in
+    let v = survey-from-known-told t c .survey .ensures .most-seen in
     omega (arith, few-states (a .m) 20 most (omega arith), few-states (s .result .left - 1) 20 (omega (arith, placed .few)) (omega arith))
 
 search-returns-4 : (t : ℕ) → search-lts.Need-returns-4 (calls t) (search-at t) search′.Post
-search-returns-4 t c = let a = c .before .before .before .before .before .before .before .before .before .before .before .before .before .before .before .before .before .before .before .before .before .before .args in
-    let pre = c .before .before .before .before .before .before .before .before .before .before .before .before .before .before .before .before .before .before .before .before .before .before .pre .1 in
-    let s = c .before .before .before .before .before .before .before .before .before .before .before .before .before .before .before .before .before .before .skip in
+search-returns-4 t c = let a = start-from-known-told t c .args in
+    let pre = start-from-known-told t c .pre .1 in
+    let s = skip-from-known-told t c .skip in
     let w = (good (a .net .now) (a .want)) in
-    let nz = c .before .before .before .before .before .before .before .before .before .before .before .before .before .before .before .if2 .left in
+    let nz = else2-from-known-told t c .if2 .left in
     let most = pre .1 in
     let placed = s .ensures .1 in
     let g = c .before .f .given in
     let q = c .before .before .before .before .before .before .states-of .ensures in
     visited-skip w (a .m) (a .left) (a .p) (a .b) (s .result) _ (s .ensures .0) (s .ensures .2 w)
-    (finds-with w (a .m) (s .result .left) (s .result .place) (a .b) placed most (omega arith) (c .before .before .before .before .before .before .before .before .before .before .before .before .before .add .result) (c .before .before .before .before .before .before .before .before .before .before .before .before .settle .result) (c .before .before .before .before .before .before .before .before .before .before .before .before .before .add .ensures) (c .before .before .before .before .before .before .before .before .before .before .before .before .settle .ensures) (c .before .before .before .search .result) (rw (c .before .before .before .before .before .before .before .before .before .before .before .step .ensures) at (c .before .before .before .search .ensures)) (c .before .before .before .before .before .before .states-of .result) (omega (arith, c .before .before .before .before .before .before .before .before .survey .ensures .most-seen)) (g .0 .0) (g .0 .1 .0) (g .1) (omega (arith, c .before .before .before .before .before .before .before .before .survey .ensures .some-seen)))
+    (finds-with w (a .m) (s .result .left) (s .result .place) (a .b) placed most (omega arith) (add-from-known-told t c .add .result) (settle-from-known-told t c .settle .result) (add-from-known-told t c .add .ensures) (settle-from-known-told t c .settle .ensures) (c .before .before .before .search .result) (rw (step-from-known-told t c .step .ensures) at (c .before .before .before .search .ensures)) (c .before .before .before .before .before .before .states-of .result) (omega (arith, survey-from-known-told t c .survey .ensures .most-seen)) (g .0 .0) (g .0 .1 .0) (g .1) (omega (arith, survey-from-known-told t c .survey .ensures .some-seen)))
 
 search-enum-told-2 : (t : ℕ) → search-lts.Need-enum-told-2 (calls t) (search-at t) search′.Post
 search-enum-told-2 t c = search needs
@@ -204,57 +370,57 @@ search-states-of-requires-2 : (t : ℕ) → search-lts.Need-states-of-requires-2
 search-states-of-requires-2 t c κs = search needs
 
 search-add-tried : (t : ℕ) → search-lts.Need-add-tried (calls t) (search-at t) search′.Post
-search-add-tried t c = let a = c .before .before .before .before .before .before .before .before .before .before .before .before .before .before .before .before .before .before .before .before .before .before .args in
-    let pre = c .before .before .before .before .before .before .before .before .before .before .before .before .before .before .before .before .before .before .before .before .before .before .pre .1 in
-    let s = c .before .before .before .before .before .before .before .before .before .before .before .before .before .before .before .before .before .before .skip in
+search-add-tried t c = let a = start-from-states-of2 t c .args in
+    let pre = start-from-states-of2 t c .pre .1 in
+    let s = skip-from-states-of2 t c .skip in
     let w = (good (a .net .now) (a .want)) in
-    let nz = c .before .before .before .before .before .before .before .before .before .before .before .before .before .before .before .if2 .left in
+    let nz = else2-from-states-of2 t c .if2 .left in
     let most = pre .1 in
     let placed = s .ensures .1 in
     let f = c .before .before .before .search .ensures .most-seen in
     let e = c .states-of2 .ensures in
     let q = c .before .before .before .before .before .before .states-of .ensures in
-    let v = c .before .before .before .before .before .before .before .before .survey .ensures .most-seen in
+    let v = survey-from-states-of2 t c .survey .ensures .most-seen in
     omega (arith, few-states (a .m) 20 most (omega arith), few-states (s .result .left - 1) 20 (omega (arith, placed .few)) (omega arith))
 
 search-enum-told-3 : (t : ℕ) → search-lts.Need-enum-told-3 (calls t) (search-at t) search′.Post
 search-enum-told-3 t c = search needs
 
 search-sub-gone : (t : ℕ) → search-lts.Need-sub-gone (calls t) (search-at t) search′.Post
-search-sub-gone t c = let a = c .before .before .before .before .before .before .before .before .before .before .before .before .before .before .before .before .before .before .args in
-    let pre = c .before .before .before .before .before .before .before .before .before .before .before .before .before .before .before .before .before .before .pre .1 in
-    let s = c .before .before .before .before .before .before .before .before .before .before .before .before .before .before .skip in
+search-sub-gone t c = let a = start-from-struct-known3 t c .args in
+    let pre = start-from-struct-known3 t c .pre .1 in
+    let s = skip-from-struct-known3 t c .skip in
     let w = (good (a .net .now) (a .want)) in
-    let nz = c .before .before .before .before .before .before .before .before .before .before .before .if2 .left in
+    let nz = else2-from-struct-known3 t c .if2 .left in
     let most = pre .1 in
     let placed = s .ensures .1 in
     omega (arith, placed .few)
 
 search-gone-requires : (t : ℕ) → search-lts.Need-gone-requires (calls t) (search-at t) search′.Post
-search-gone-requires t c κs = let pre = c .before .before .before .before .before .before .before .before .before .before .before .before .before .before .before .before .before .before .pre .1 in pre .0
+search-gone-requires t c κs = let pre = start-from-struct-known3 t c .pre .1 in pre .0
 
 search-strike-requires : (t : ℕ) → search-lts.Need-strike-requires (calls t) (search-at t) search′.Post
 search-strike-requires t c κs = search needs
 
 search-settle-requires-2 : (t : ℕ) → search-lts.Need-settle-requires-2 (calls t) (search-at t) search′.Post
-search-settle-requires-2 t c κs = let pre = c .before .before .before .before .before .before .before .before .before .before .before .before .before .before .before .before .before .before .before .before .pre .1 in pre .0
+search-settle-requires-2 t c κs = let pre = start-from-strike t c .pre .1 in pre .0
 
 search-step-requires-2 : (t : ℕ) → search-lts.Need-step-requires-2 (calls t) (search-at t) search′.Post
-search-step-requires-2 t c κs = let a = c .before .before .before .before .before .before .before .before .before .before .before .before .before .before .before .before .before .before .before .before .before .args in
-    let pre = c .before .before .before .before .before .before .before .before .before .before .before .before .before .before .before .before .before .before .before .before .before .pre .1 in
-    let s = c .before .before .before .before .before .before .before .before .before .before .before .before .before .before .before .before .before .skip in
+search-step-requires-2 t c κs = let a = start-from-settle2 t c .args in
+    let pre = start-from-settle2 t c .pre .1 in
+    let s = skip-from-settle2 t c .skip in
     let w = (good (a .net .now) (a .want)) in
-    let nz = c .before .before .before .before .before .before .before .before .before .before .before .before .before .before .if2 .left in
+    let nz = else2-from-settle2 t c .if2 .left in
     let most = pre .1 in
     let placed = s .ensures .1 in
     (small-weight (a .m) (s .result .left) (s .result .place) placed (omega arith) most, placed .small, omega arith)
 
 search-is-first-requires-2 : (t : ℕ) → search-lts.Need-is-first-requires-2 (calls t) (search-at t) search′.Post
-search-is-first-requires-2 t c κs = let a = c .before .before .before .before .before .before .before .before .before .before .before .before .before .before .before .before .before .before .before .before .before .before .args in
-    let pre = c .before .before .before .before .before .before .before .before .before .before .before .before .before .before .before .before .before .before .before .before .before .before .pre .1 in
-    let s = c .before .before .before .before .before .before .before .before .before .before .before .before .before .before .before .before .before .before .skip in
+search-is-first-requires-2 t c κs = let a = start-from-step2 t c .args in
+    let pre = start-from-step2 t c .pre .1 in
+    let s = skip-from-step2 t c .skip in
     let w = (good (a .net .now) (a .want)) in
-    let nz = c .before .before .before .before .before .before .before .before .before .before .before .before .before .before .before .if2 .left in
+    let nz = else2-from-step2 t c .if2 .left in
     let most = pre .1 in
     let placed = s .ensures .1 in
     let e = c .step2 .ensures in
@@ -297,60 +463,60 @@ left-out t c = let a = c .before .before .before .before .before .before .before
     (λ e. lost w (a .b) (a .m - s .result .left) (c .before .before .before .before .before .before .before .before .before .before .add .result) (c .before .before .before .before .before .before .before .before .before .settle .result) (c .before .before .before .before .before .before .before .before .before .before .add .ensures _ (placed .weight)) (c .before .before .before .before .before .before .before .before .before .settle .ensures) (v .ensures .sure e))
 
 search-add-t32 : (t : ℕ) → search-lts.Need-add-t32 (calls t) (search-at t) search′.Post
-search-add-t32 t c = let a = c .before .before .before .before .before .before .before .before .before .before .before .before .before .before .before .before .before .before .before .before .before .before .before .before .before .args in
-    let pre = c .before .before .before .before .before .before .before .before .before .before .before .before .before .before .before .before .before .before .before .before .before .before .before .before .before .pre .1 in
-    let s = c .before .before .before .before .before .before .before .before .before .before .before .before .before .before .before .before .before .before .before .before .before .skip in
+search-add-t32 t c = let a = start-from-row-known t c .args in
+    let pre = start-from-row-known t c .pre .1 in
+    let s = skip-from-row-known t c .skip in
     let w = (good (a .net .now) (a .want)) in
-    let nz = c .before .before .before .before .before .before .before .before .before .before .before .before .before .before .before .before .before .before .if2 .left in
+    let nz = else2-from-row-known t c .if2 .left in
     let most = pre .1 in
     let placed = s .ensures .1 in
-    omega (arith, past-end t (c .before .before .before .before .before .before .before .before) .most-seen, few-states (s .result .left - 1) 20 (omega (arith, placed .few)) (omega arith))
+    omega (arith, past-end t (at-match-came-from-row-known t c) .most-seen, few-states (s .result .left - 1) 20 (omega (arith, placed .few)) (omega arith))
 
 search-returns-5 : (t : ℕ) → search-lts.Need-returns-5 (calls t) (search-at t) search′.Post
-search-returns-5 t c = let a = c .before .before .before .before .before .before .before .before .before .before .before .before .before .before .before .before .before .before .before .before .before .before .before .before .before .args in
-    let pre = c .before .before .before .before .before .before .before .before .before .before .before .before .before .before .before .before .before .before .before .before .before .before .before .before .before .pre .1 in
-    let s = c .before .before .before .before .before .before .before .before .before .before .before .before .before .before .before .before .before .before .before .before .before .skip in
+search-returns-5 t c = let a = start-from-row-known t c .args in
+    let pre = start-from-row-known t c .pre .1 in
+    let s = skip-from-row-known t c .skip in
     let w = (good (a .net .now) (a .want)) in
-    let nz = c .before .before .before .before .before .before .before .before .before .before .before .before .before .before .before .before .before .before .if2 .left in
+    let nz = else2-from-row-known t c .if2 .left in
     let most = pre .1 in
     let placed = s .ensures .1 in
     let g = rw (c .before .before .before .step2 .ensures ∙ stepped-leaving (s .result .place)) at (c .before .before .is-first2 .ensures (c .before .if4 .taken)) in
     visited-skip w (a .m) (a .left) (a .p) (a .b) (s .result) _ (s .ensures .0) (s .ensures .2 w)
-    (finds-first-out w (a .m) (s .result .left) (s .result .place) (a .b) placed most (omega arith) (c .before .before .before .before .before .before .before .before .match .tried) (past-end t (c .before .before .before .before .before .before .before .before)) (c .before .before .before .before .before .before .gone .result) (left-out t (c .before .before .before .before .before .before)) (c .before .before .before .before .before .strike .result) (c .before .before .before .before .settle2 .result) (c .before .before .before .before .before .strike .ensures) (c .before .before .before .before .settle2 .ensures) (g .0) (g .1) (g .2))
+    (finds-first-out w (a .m) (s .result .left) (s .result .place) (a .b) placed most (omega arith) (at-match-came-from-row-known t c .match .tried) (past-end t (at-match-came-from-row-known t c)) (c .before .before .before .before .before .before .gone .result) (left-out t (c .before .before .before .before .before .before)) (c .before .before .before .before .before .strike .result) (c .before .before .before .before .settle2 .result) (c .before .before .before .before .before .strike .ensures) (c .before .before .before .before .settle2 .ensures) (g .0) (g .1) (g .2))
 
 search-search-requires-2 : (t : ℕ) → search-lts.Need-search-requires-2 (calls t) (search-at t) search′.Post
-search-search-requires-2 t c κs = let a = c .before .before .before .before .before .before .before .before .before .before .before .before .before .before .before .before .before .before .before .before .before .before .before .before .args in
-    let pre = c .before .before .before .before .before .before .before .before .before .before .before .before .before .before .before .before .before .before .before .before .before .before .before .before .pre .1 in
-    let s = c .before .before .before .before .before .before .before .before .before .before .before .before .before .before .before .before .before .before .before .before .skip in
+search-search-requires-2 t c κs = let a = start-from-else4 t c .args in
+    let pre = start-from-else4 t c .pre .1 in
+    let s = skip-from-else4 t c .skip in
     let w = (good (a .net .now) (a .want)) in
-    let nz = c .before .before .before .before .before .before .before .before .before .before .before .before .before .before .before .before .before .if2 .left in
+    let nz = else2-from-else4 t c .if2 .left in
     let most = pre .1 in
     let placed = s .ensures .1 in
     let e = c .before .before .step2 .ensures ∙ stepped-leaving (s .result .place) in
-    (omega (arith, s .ensures .0, c .before .before .before .before .before .before .before .before .before .before .before .before .before .before .before .before .before .before .before .before .before .before .before .before .pre .0), (pre .0, most, rw e (placed-leaving (a .m) (s .result .left) (s .result .place) placed (omega arith))))
+    (omega (arith, s .ensures .0, start-from-else4 t c .pre .0), (pre .0, most, rw e (placed-leaving (a .m) (s .result .left) (s .result .place) placed (omega arith))))
 
 search-after-requires : (t : ℕ) → search-lts.Need-after-requires (calls t) (search-at t) search′.Post
-search-after-requires t c κs = let a = c .before .before .before .before .before .before .before .before .before .before .before .before .before .before .before .before .before .before .before .before .before .before .before .before .before .args in
-    let pre = c .before .before .before .before .before .before .before .before .before .before .before .before .before .before .before .before .before .before .before .before .before .before .before .before .before .pre .1 in
-    let s = c .before .before .before .before .before .before .before .before .before .before .before .before .before .before .before .before .before .before .before .before .before .skip in
+search-after-requires t c κs = let a = start-from-search2 t c .args in
+    let pre = start-from-search2 t c .pre .1 in
+    let s = skip-from-search2 t c .skip in
     let w = (good (a .net .now) (a .want)) in
-    let nz = c .before .before .before .before .before .before .before .before .before .before .before .before .before .before .before .before .before .before .if2 .left in
+    let nz = else2-from-search2 t c .if2 .left in
     let most = pre .1 in
     let placed = s .ensures .1 in
     let v = c .search2 .ensures .most-seen in
-    omega (arith, past-end t (c .before .before .before .before .before .before .before .before) .most-seen, few-states (s .result .left - 1) 20 (omega (arith, placed .few)) (omega arith))
+    omega (arith, past-end t (at-match-came-from-search2 t c) .most-seen, few-states (s .result .left - 1) 20 (omega (arith, placed .few)) (omega arith))
 
 search-returns-6 : (t : ℕ) → search-lts.Need-returns-6 (calls t) (search-at t) search′.Post
-search-returns-6 t c = let a = c .before .before .before .before .before .before .before .before .before .before .before .before .before .before .before .before .before .before .before .before .before .before .before .before .before .before .args in
-    let pre = c .before .before .before .before .before .before .before .before .before .before .before .before .before .before .before .before .before .before .before .before .before .before .before .before .before .before .pre .1 in
-    let s = c .before .before .before .before .before .before .before .before .before .before .before .before .before .before .before .before .before .before .before .before .before .before .skip in
+search-returns-6 t c = let a = start-from-after t c .args in
+    let pre = start-from-after t c .pre .1 in
+    let s = skip-from-after t c .skip in
     let w = (good (a .net .now) (a .want)) in
-    let nz = c .before .before .before .before .before .before .before .before .before .before .before .before .before .before .before .before .before .before .before .if2 .left in
+    let nz = else2-from-after t c .if2 .left in
     let most = pre .1 in
     let placed = s .ensures .1 in
     let v = c .before .search2 in
     visited-skip w (a .m) (a .left) (a .p) (a .b) (s .result) _ (s .ensures .0) (s .ensures .2 w)
-    (finds-without w (a .m) (s .result .left) (s .result .place) (a .b) placed most (omega arith) (c .before .before .before .before .before .before .before .before .before .match .tried) (past-end t (c .before .before .before .before .before .before .before .before .before)) (c .before .before .before .before .before .before .before .gone .result) (left-out t (c .before .before .before .before .before .before .before)) (c .before .before .before .before .before .before .strike .result) (c .before .before .before .before .before .settle2 .result) (c .before .before .before .before .before .before .strike .ensures) (c .before .before .before .before .before .settle2 .ensures) (v .result) (rw (c .before .before .before .before .step2 .ensures ∙ stepped-leaving (s .result .place)) at (v .ensures)) (c .after .result) (c .after .ensures .0) (c .after .ensures .1))
+    (finds-without w (a .m) (s .result .left) (s .result .place) (a .b) placed most (omega arith) (at-match-came-from-after t c .match .tried) (past-end t (at-match-came-from-after t c)) (c .before .before .before .before .before .before .before .gone .result) (left-out t (c .before .before .before .before .before .before .before)) (c .before .before .before .before .before .before .strike .result) (c .before .before .before .before .before .settle2 .result) (c .before .before .before .before .before .before .strike .ensures) (c .before .before .before .before .before .settle2 .ensures) (v .result) (rw (c .before .before .before .before .step2 .ensures ∙ stepped-leaving (s .result .place)) at (v .ensures)) (c .after .result) (c .after .ensures .0) (c .after .ensures .1))
 
 pub +search-spec : {M : Type 1} → statement M
 +search-spec = close μ-search λ t. search-lts.spec (calls t)

@@ -4,7 +4,7 @@ use mathlib.Core.Bool.{Bool, true, cond}
 use Prim.Native.Nat.{ℕ, _-_, _≤_}
 use native.Mathlib.Omega.{arith}
 use Rattle.pick_bounds.specs.Net.{meets}
-use Rattle.pick_search.specs.Searching.{Placed, Skipped, stepped}
+use Rattle.pick_search.specs.Searching.{AtPlace, Skipped, stepped}
 use Rattle.pick_search.proofs.Searching.{small-weight, placed-decided, skips, skipped-none, skipped-then}
 use Prim.Native.Nat.{ℕ, _≤_}
 use borrow.Author.Needs.{needs}
@@ -12,7 +12,7 @@ use Rattle.pick_search.proofs.skip.Statement.{statement}
 use Rattle.pick_search.proofs.skip.Tie as tie
 
 abbrev Inv-loop : tie.InvT-loop
-Inv-loop m left b rest₀ place₀ rest place = (rest ≤ rest₀) × Placed m rest place × ((w : ℕ → Bool) → Skipped w m rest₀ place₀ b (record { left = rest; place = place }))
+Inv-loop m left b rest₀ place₀ rest place = (rest ≤ rest₀) × AtPlace m rest place × ((w : ℕ → Bool) → Skipped w m rest₀ place₀ b (record { left = rest; place = place }))
 
 abbrev μ-loop : tie.MeasureT-loop
 μ-loop m left b rest₀ place₀ rest place = rest

@@ -4,6 +4,13 @@ use borrow.Author.Needs.{needs}
 use Rattle.sheet.proofs.describe.Statement.{statement}
 use Rattle.sheet.proofs.describe.Tie as tie
 
+-- ---- places, each from a later one
+abbrev start-from-slice-known : tie.After-slice-known → tie.Start
+start-from-slice-known c = c .before .before
+
+abbrev start-from-slice-known2 : tie.After-slice-known2 → tie.Start
+start-from-slice-known2 c = start-from-slice-known (c .before .before .before .before .before .before .before)
+
 table-part-requires : tie.Need-table-part-requires
 table-part-requires c κs = search needs
 
@@ -21,7 +28,7 @@ same-length c = search needs
 
 returns : tie.Need-returns
 returns c = let d = c .before .before .describe-parts in
-    (d .ensures .0, λ input e. prints-for input e (prints (c .before .before .before .before .before .before .before .before .before .args .stream .now) _ (c .before .before .before .before .before .before .table-part .ensures) (c .before .before .before .before .before .marking-part .ensures) (c .before .before .before .before .guards-part .ensures) (d .ensures .1)))
+    (d .ensures .0, λ input e. prints-for input e (prints (start-from-slice-known2 c .args .stream .now) _ (c .before .before .before .before .before .before .table-part .ensures) (c .before .before .before .before .before .marking-part .ensures) (c .before .before .before .before .guards-part .ensures) (d .ensures .1)))
 
 pub describe-spec : {M : Type 1} → statement M
 describe-spec =

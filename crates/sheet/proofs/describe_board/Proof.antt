@@ -8,6 +8,16 @@ use borrow.Author.Needs.{needs}
 use Rattle.sheet.proofs.describe_board.Statement.{statement}
 use Rattle.sheet.proofs.describe_board.Tie as tie
 
+-- ---- places, each from a later one
+abbrev start-from-shared-slice-known3 : tie.After-shared-slice-known3 → tie.Start
+start-from-shared-slice-known3 c = c .before .before .before
+
+abbrev start-from-length-in : tie.After-length-in → tie.Start
+start-from-length-in c = start-from-shared-slice-known3 (c .before .before .before .before .before .before .before)
+
+abbrev start-from-board-text-arg : tie.After-board-text-arg → tie.Start
+start-from-board-text-arg c = start-from-length-in (c .before .before)
+
 slice-aggregate-pick : tie.Need-slice-aggregate-pick
 slice-aggregate-pick c = search needs
 
@@ -22,7 +32,7 @@ length-in-requires c κs = search needs
 
 array-share-prefix-choice : tie.Need-array-share-prefix-choice
 array-share-prefix-choice c = let p = c .before .before .pick in
-    omega (arith, pick-told (c .before .before .before .before .before .before .before .before .before .before .pre .0) refl (p .ensures) (c .length-in .result) (c .length-in .ensures .1) .1, p .kept)
+    omega (arith, pick-told (start-from-length-in c .pre .0) refl (p .ensures) (c .length-in .result) (c .length-in .ensures .1) .1, p .kept)
 
 slice-aggregate-board-text : tie.Need-slice-aggregate-board-text
 slice-aggregate-board-text c = sym (length-take-le (c .before .length-in .result) (c .before .before .before .pick .last .1 .1 .1 .1 .1 .0) (array-share-prefix-choice (c .before)))
@@ -30,9 +40,9 @@ slice-aggregate-board-text c = sym (length-take-le (c .before .length-in .result
 board-text-requires : tie.Need-board-text-requires
 board-text-requires c κs = let p = c .before .before .before .before .pick in
     let n = c .before .before .length-in in
-    let x = c .before .before .before .before .before .before .before .before .before .before .before .before .pre .0 in
+    let x = start-from-board-text-arg c .pre .0 in
     let k = pick-told x refl (p .ensures) (n .result) (n .ensures .1) in
-    (sheet-of x, omega (arith, x .short, k .1, length-take-le (n .result) (p .last .1 .1 .1 .1 .1 .0) (omega (arith, k .1, p .kept)), c .before .before .before .before .before .before .before .before .before .before .before .before .pre .1))
+    (sheet-of x, omega (arith, x .short, k .1, length-take-le (n .result) (p .last .1 .1 .1 .1 .1 .0) (omega (arith, k .1, p .kept)), start-from-board-text-arg c .pre .1))
 
 same-length : tie.Need-same-length
 same-length c = search needs

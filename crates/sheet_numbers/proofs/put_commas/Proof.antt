@@ -17,6 +17,31 @@ Inv-loop s from n out₀ to next₀ k₀ out next k = (1 ≤ k) × (k ≤ n) × 
 abbrev μ-loop : tie.MeasureT-loop
 μ-loop s from n out₀ to next₀ k₀ out next k = n - k
 
+-- ---- places, each from a later one
+abbrev wide-from-put-decimal : tie.After-put-decimal Inv-loop μ-loop → tie.After-wide Inv-loop μ-loop
+wide-from-put-decimal c = c .before .before
+
+abbrev wide-from-put-parted-arg : tie.After-put-parted-arg Inv-loop μ-loop → tie.After-wide Inv-loop μ-loop
+wide-from-put-parted-arg c = wide-from-put-decimal (c .before .before .before .before .before .before .before)
+
+abbrev start-from-put-decimal : tie.After-put-decimal Inv-loop μ-loop → tie.Start Inv-loop μ-loop
+start-from-put-decimal c = c .before .before .before .before .before .before .before
+
+abbrev start-from-put-parted-arg : tie.After-put-parted-arg Inv-loop μ-loop → tie.Start Inv-loop μ-loop
+start-from-put-parted-arg c = start-from-put-decimal (c .before .before .before .before .before .before .before)
+
+abbrev start-from-slice-known3 : tie.After-slice-known3 Inv-loop μ-loop → tie.Start Inv-loop μ-loop
+start-from-slice-known3 c = start-from-put-parted-arg (c .before .before .before)
+
+abbrev start-from-loop : tie.After-loop Inv-loop μ-loop → tie.Start Inv-loop μ-loop
+start-from-loop c = start-from-put-decimal (c .before .before .before .before)
+
+abbrev else1-from-shared-slice-known2 : tie.After-shared-slice-known2 Inv-loop μ-loop → tie.Else1 Inv-loop μ-loop
+else1-from-shared-slice-known2 c = c .before
+
+abbrev else1-from-loop : tie.After-loop Inv-loop μ-loop → tie.Else1 Inv-loop μ-loop
+else1-from-loop c = else1-from-shared-slice-known2 (c .before .before .before .before .before .before .before)
+
 slice-write-out : tie.Need-slice-write-out Inv-loop μ-loop
 slice-write-out c = search needs
 
@@ -51,10 +76,10 @@ wide-requires-2 : tie.Need-wide-requires-2 Inv-loop μ-loop
 wide-requires-2 c κs = search needs
 
 put-parted-requires : tie.Need-put-parted-requires Inv-loop μ-loop
-put-parted-requires c κs = let w = c .before .before .before .before .before .before .before .before .before .wide in
+put-parted-requires c κs = let w = wide-from-put-parted-arg c .wide in
     let d = c .before .before .before .before .before .before .before .put-decimal in
     let l = c .before .before .before .before .loop in
-    omega (arith, c .before .before .before .before .before .before .before .before .before .before .before .before .before .before .pre .1, byte-short (c .before .wide2 .result) (c .before .wide2 .ensures .1), byte-short (w .result) (w .ensures .1), d .ensures .place, writing-long (l .inv .3), wrote-long (d .ensures))
+    omega (arith, start-from-put-parted-arg c .pre .1, byte-short (c .before .wide2 .result) (c .before .wide2 .ensures .1), byte-short (w .result) (w .ensures .1), d .ensures .place, writing-long (l .inv .3), wrote-long (d .ensures))
 
 add-k : tie.Need-add-k Inv-loop μ-loop
 add-k c = search needs
@@ -64,25 +89,25 @@ loop-less c = search needs
 
 loop-again : tie.Need-loop-again Inv-loop μ-loop
 loop-again c = let l = c .before .before .before .before .before .before .before .loop in
-    let a = c .before .before .before .before .before .before .before .before .before .before .before .before .before .before .before .before .before .args in
+    let a = start-from-slice-known3 c .args in
     let w = c .before .before .before .before .wide2 in
     let p = c .before .before .put-parted .ensures in (
       omega arith,
       omega arith,
       omega (arith, byte-short (w .result) (w .ensures .1), p .place),
-      writing-on (l .inv .3) (further-next (a .s .now) (a .from) (a .n) (c .before .before .before .before .before .before .before .before .before .before .before .before .before .before .before .before .before .pre .0) (l .k) (c .before .before .before .before .before .before .loop-test .taken)) (wrote-as p (ap (λ v. 44 ∷ decimal v) (w .ensures .0))),
+      writing-on (l .inv .3) (further-next (a .s .now) (a .from) (a .n) (start-from-slice-known3 c .pre .0) (l .k) (c .before .before .before .before .before .before .loop-test .taken)) (wrote-as p (ap (λ v. 44 ∷ decimal v) (w .ensures .0))),
     )
 
 same-length-2 : tie.Need-same-length-2 Inv-loop μ-loop
 same-length-2 c = let d = c .before .before .before .before .put-decimal in writing-long (c .before .loop .inv .3) ∙ wrote-long (d .ensures)
 
 returns-2 : tie.Need-returns-2 Inv-loop μ-loop
-returns-2 c = let a = c .before .before .before .before .before .before .before .before .before .before .before .args in
+returns-2 c = let a = start-from-loop c .args in
     let l = c .before .loop in
     let w = c .before .before .before .before .before .before .wide in
     let d = c .before .before .before .before .put-decimal .ensures in (
-      wrote-as (wrote-then (wrote-as d (ap decimal (w .ensures .0))) (writing-done (l .inv .3) (further-none (a .s .now) (a .from) (a .n) (c .before .before .before .before .before .before .before .before .before .before .before .pre .0) (l .k) (c .loop-test .left))))
-          (sym (commas-first (a .s .now) (a .from) (a .n) (c .before .before .before .before .before .before .before .before .before .before .before .pre .0) (omega (arith, c .before .before .before .before .before .before .before .before .if1 .left)))),
+      wrote-as (wrote-then (wrote-as d (ap decimal (w .ensures .0))) (writing-done (l .inv .3) (further-none (a .s .now) (a .from) (a .n) (start-from-loop c .pre .0) (l .k) (c .loop-test .left))))
+          (sym (commas-first (a .s .now) (a .from) (a .n) (start-from-loop c .pre .0) (omega (arith, else1-from-loop c .if1 .left)))),
       omega (arith, byte-short (w .result) (w .ensures .1), d .place),
     )
 

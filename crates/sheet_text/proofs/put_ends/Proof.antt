@@ -15,6 +15,13 @@ Inv-loop t table s n out₀ to p₀ next₀ k₀ out p next k = (k ≤ n) × (ne
 abbrev μ-loop : tie.MeasureT-loop
 μ-loop t table s n out₀ to p₀ next₀ k₀ out p next k = n - k
 
+-- ---- places, each from a later one
+abbrev start-from-shared-slice-known2 : tie.After-shared-slice-known2 Inv-loop μ-loop → tie.Start Inv-loop μ-loop
+start-from-shared-slice-known2 c = c .before .before
+
+abbrev start-from-slice-known2 : tie.After-slice-known2 Inv-loop μ-loop → tie.Start Inv-loop μ-loop
+start-from-slice-known2 c = start-from-shared-slice-known2 (c .before .before .before .before .before .before .before)
+
 loop-holds : tie.Need-loop-holds Inv-loop μ-loop
 loop-holds c = let a = c .before .before .before .args in
     let w = ends-whole (a .t .now) (a .s .now) 4 (a .n) in
@@ -37,7 +44,7 @@ loop-less : tie.Need-loop-less Inv-loop μ-loop
 loop-less c = search needs
 
 loop-again : tie.Need-loop-again Inv-loop μ-loop
-loop-again c = let a = c .before .before .before .before .before .before .before .before .before .args in
+loop-again c = let a = start-from-slice-known2 c .args in
     let l = c .before .before .before .before .before .loop in
     let h = c .before .before .before .before .loop-test .taken in
     let e = c .before .before .put-end .ensures in

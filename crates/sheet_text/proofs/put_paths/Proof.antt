@@ -15,6 +15,16 @@ Inv-loop s start m out₀ to p₀ next₀ j₀ out p next j = (j ≤ m) × (next
 abbrev μ-loop : tie.MeasureT-loop
 μ-loop s start m out₀ to p₀ next₀ j₀ out p next j = m - j
 
+-- ---- places, each from a later one
+abbrev start-from-slice-known : tie.After-slice-known Inv-loop μ-loop → tie.Start Inv-loop μ-loop
+start-from-slice-known c = c .before .before
+
+abbrev start-from-shared-slice-known2 : tie.After-shared-slice-known2 Inv-loop μ-loop → tie.Start Inv-loop μ-loop
+start-from-shared-slice-known2 c = start-from-slice-known (c .before .before .before .before .before .before .before)
+
+abbrev start-from-wide : tie.After-wide Inv-loop μ-loop → tie.Start Inv-loop μ-loop
+start-from-wide c = start-from-shared-slice-known2 (c .before)
+
 loop-holds : tie.Need-loop-holds Inv-loop μ-loop
 loop-holds c = let a = c .before .before .args in
     let w = paths-whole (a .s .now) (a .start) (a .m) in
@@ -30,9 +40,9 @@ put-path-requires c κs = let l = c .before .before .loop in
 
 shared-slice-read-wide : tie.Need-shared-slice-read-wide Inv-loop μ-loop
 shared-slice-read-wide c = let l = c .before .before .before .before .before .before .loop in
-    let a = c .before .before .before .before .before .before .before .before .before .args in
+    let a = start-from-shared-slice-known2 c .args in
     let s = a .s .now in
-    omega (arith, paths-grow s (pathOver s (l .p)) (a .m - (l .j + 1)), paths-on s (l .p) (l .j) (a .m) (c .before .before .before .before .before .loop-test .taken), l .inv .2, c .before .before .before .before .before .before .before .before .before .pre)
+    omega (arith, paths-grow s (pathOver s (l .p)) (a .m - (l .j + 1)), paths-on s (l .p) (l .j) (a .m) (c .before .before .before .before .before .loop-test .taken), l .inv .2, start-from-shared-slice-known2 c .pre)
 
 wide-requires : tie.Need-wide-requires Inv-loop μ-loop
 wide-requires c κs = search needs
@@ -42,9 +52,9 @@ add-p c = search needs
 
 add-p-2 : tie.Need-add-p-2 Inv-loop μ-loop
 add-p-2 c = let l = c .before .before .before .before .before .before .before .loop in
-    let a = c .before .before .before .before .before .before .before .before .before .before .args in
+    let a = start-from-wide c .args in
     let s = a .s .now in
-    omega (arith, paths-grow s (pathOver s (l .p)) (a .m - (l .j + 1)), paths-on s (l .p) (l .j) (a .m) (c .before .before .before .before .before .before .loop-test .taken), l .inv .2, c .before .before .before .before .before .before .before .before .before .before .pre, c .wide .ensures .0)
+    omega (arith, paths-grow s (pathOver s (l .p)) (a .m - (l .j + 1)), paths-on s (l .p) (l .j) (a .m) (c .before .before .before .before .before .before .loop-test .taken), l .inv .2, start-from-wide c .pre, c .wide .ensures .0)
 
 add-j : tie.Need-add-j Inv-loop μ-loop
 add-j c = search needs
@@ -54,7 +64,7 @@ loop-less c = search needs
 
 loop-again : tie.Need-loop-again Inv-loop μ-loop
 loop-again c = let l = c .before .before .before .before .before .before .before .loop in
-    let a = c .before .before .before .before .before .before .before .before .before .before .args in
+    let a = start-from-wide c .args in
     let s = a .s .now in
     let w = c .wide .ensures .0 in
     let h = c .before .before .before .before .before .before .loop-test .taken in

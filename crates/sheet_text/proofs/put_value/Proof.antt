@@ -7,6 +7,16 @@ use borrow.Author.Needs.{needs}
 use Rattle.sheet_text.proofs.put_value.Statement.{statement}
 use Rattle.sheet_text.proofs.put_value.Tie as tie
 
+-- ---- places, each from a later one
+abbrev start-from-slice-known : tie.After-slice-known → tie.Start
+start-from-slice-known c = c .before .before
+
+abbrev start-from-slice-known2 : tie.After-slice-known2 → tie.Start
+start-from-slice-known2 c = start-from-slice-known (c .before .before .before .before .before .before .before)
+
+abbrev start-from-slice-known3 : tie.After-slice-known3 → tie.Start
+start-from-slice-known3 c = start-from-slice-known (c .before .before .before .before .before .before .before)
+
 shared-slice-read-if1 : tie.Need-shared-slice-read-if1
 shared-slice-read-if1 c = search needs
 
@@ -20,7 +30,7 @@ same-length : tie.Need-same-length
 same-length c = search needs
 
 returns : tie.Need-returns
-returns c = let a = c .before .before .before .before .before .before .before .before .before .args in
+returns c = let a = start-from-slice-known2 c .args in
     let w = c .before .before .put .ensures in
     (wrote-as w (value-none (a .s .now) (a .p) (c .before .before .before .before .before .if1 .taken)), omega (arith, w .place))
 
@@ -40,7 +50,7 @@ same-length-2 : tie.Need-same-length-2
 same-length-2 c = search needs
 
 returns-2 : tie.Need-returns-2
-returns-2 c = let a = c .before .before .before .before .before .before .before .before .before .args in
+returns-2 c = let a = start-from-slice-known3 c .args in
     let w = c .before .before .put-parted .ensures in
     (wrote-as w (value-some (a .s .now) (a .p) (c .before .before .before .before .read32 .result) (c .before .before .before .before .before .if1 .left) (c .before .before .before .before .read32 .ensures)), omega (arith, w .place, decimal-short (c .before .before .before .before .read32 .result)))
 

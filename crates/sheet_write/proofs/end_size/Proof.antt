@@ -5,28 +5,35 @@ use native.Mathlib.Omega.{arith}
 use Rattle.paper.specs.Lists.{at}
 use Rattle.wire.specs.Totals.{total}
 use Rattle.wire.proofs.Runs.{total-more}
-use Rattle.sheet_write.specs.Listing.{pathTakes, endTakes}
+use Rattle.sheet_write.specs.Listing.{many, pathTakes, endTakes}
 use borrow.Author.Needs.{needs}
 use Rattle.sheet_write.proofs.end_size.Statement.{statement}
 use Rattle.sheet_write.proofs.end_size.Tie as tie
 
 abbrev Inv-loop : tie.InvT-loop
-Inv-loop many rows order lens n k m taken₀ j₀ taken j = (j ≤ m) × (taken ≡ 7 + total (pathTakes order lens k) j) × (taken ≤ 7 + 256 * j)
+Inv-loop rows ends order lens n k m taken₀ j₀ taken j = (j ≤ m) × (taken ≡ 7 + total (pathTakes order lens k) j) × (taken ≤ 7 + 256 * j)
 
 abbrev μ-loop : tie.MeasureT-loop
-μ-loop many rows order lens n k m taken₀ j₀ taken j = m - j
+μ-loop rows ends order lens n k m taken₀ j₀ taken j = m - j
+
+-- the function's start, from where the row and its paths are known
+abbrev start : tie.After-paths-of Inv-loop μ-loop → tie.Start Inv-loop μ-loop
+start c = c .before .before .before .before .before .before .before
 
 shared-slice-read-wide : tie.Need-shared-slice-read-wide Inv-loop μ-loop
-shared-slice-read-wide c = let p = c .before .before .before .before .before .pre in omega (arith, p .0 .ends-there)
+shared-slice-read-wide c = search needs
 
 wide-requires : tie.Need-wide-requires Inv-loop μ-loop
 wide-requires c κs = search needs
 
-shared-slice-read-wide-2 : tie.Need-shared-slice-read-wide-2 Inv-loop μ-loop
-shared-slice-read-wide-2 c = let p = c .before .before .before .before .before .before .before .pre in omega (arith, p .0 .inside (c .before .before .before .before .before .before .before .args .k) (p .1), p .0 .numbers, c .before .wide .ensures .0)
+paths-of-requires : tie.Need-paths-of-requires Inv-loop μ-loop
+paths-of-requires c κs = let s = c .before .before .before .before .before .before in
+    let p = s .pre in
+    (omega (arith, p .0 .inside (s .args .k) (p .1), c .wide .ensures .0), p .0 .rows-there)
 
-wide-requires-2 : tie.Need-wide-requires-2 Inv-loop μ-loop
-wide-requires-2 c κs = search needs
+-- as many paths as the end shows
+known : (c : tie.After-paths-of Inv-loop μ-loop) → c .paths-of .result ≡ many (start c .args .rows .now) (at (start c .args .ends .now) (start c .args .k))
+known c = c .paths-of .ensures .0 ∙ ap (many (start c .args .rows .now)) (c .before .wide .ensures .0)
 
 loop-holds : tie.Need-loop-holds Inv-loop μ-loop
 unfolding total
@@ -36,28 +43,23 @@ mul-wide : tie.Need-mul-wide Inv-loop μ-loop
 mul-wide c = search needs
 
 add-wide : tie.Need-add-wide Inv-loop μ-loop
-add-wide c = let p = c .before .before .before .before .before .before .before .before .before .before .pre in omega (arith, p .0 .few)
+add-wide c = omega (arith, start (c .before .before) .pre .0 .few)
 
-shared-slice-read-wide-3 : tie.Need-shared-slice-read-wide-3 Inv-loop μ-loop
-shared-slice-read-wide-3 c = let p = c .before .before .before .before .before .before .before .before .before .before .before .pre in
-    let a = c .before .before .before .before .before .before .before .before .before .before .before .args in
-    let e : c .before .before .before .wide2 .result ≡ at (a .many .now) (at (a .rows .now) (a .k)) = c .before .before .before .wide2 .ensures .0 ∙ ap (at (a .many .now)) (c .before .before .before .before .before .wide .ensures .0) in
-    omega (arith, p .0 .few, p .0 .orders, p .0 .paths-few (a .k) (p .1), e)
+shared-slice-read-wide-2 : tie.Need-shared-slice-read-wide-2 Inv-loop μ-loop
+shared-slice-read-wide-2 c = let q = c .before .before .before in
+    let p = start q .pre in
+    omega (arith, p .0 .few, p .0 .orders, q .paths-of .ensures .1)
 
-wide-requires-3 : tie.Need-wide-requires-3 Inv-loop μ-loop
-wide-requires-3 c κs = search needs
+wide-requires-2 : tie.Need-wide-requires-2 Inv-loop μ-loop
+wide-requires-2 c κs = search needs
 
 path-size-requires : tie.Need-path-size-requires Inv-loop μ-loop
-path-size-requires c κs = let p = c .before .before .before .before .before .before .before .before .before .before .before .before .pre in
-    let a = c .before .before .before .before .before .before .before .before .before .before .before .before .args in
-    let e : c .before .before .before .before .wide2 .result ≡ at (a .many .now) (at (a .rows .now) (a .k)) = c .before .before .before .before .wide2 .ensures .0 ∙ ap (at (a .many .now)) (c .before .before .before .before .before .before .wide .ensures .0) in
-    omega (arith, p .0 .lengths, p .0 .blocks (a .k) (c .before .before .before .loop .j) (p .1) (omega arith), c .wide3 .ensures .0)
+path-size-requires c κs = let q = c .before .before .before .before in
+    let p = start q .pre in
+    omega (arith, p .0 .lengths, p .0 .blocks (start q .args .k) (c .before .before .before .loop .j) (p .1) (omega (arith, known q)), c .wide2 .ensures .0)
 
 add-taken : tie.Need-add-taken Inv-loop μ-loop
-add-taken c = let p = c .before .before .before .before .before .before .before .before .before .before .before .before .before .pre in
-    let a = c .before .before .before .before .before .before .before .before .before .before .before .before .before .args in
-    let e : c .before .before .before .before .before .wide2 .result ≡ at (a .many .now) (at (a .rows .now) (a .k)) = c .before .before .before .before .before .wide2 .ensures .0 ∙ ap (at (a .many .now)) (c .before .before .before .before .before .before .before .wide .ensures .0) in
-    omega (arith, p .0 .paths-few (a .k) (p .1), e)
+add-taken c = omega (arith, c .before .before .before .before .before .paths-of .ensures .1)
 
 add-j : tie.Need-add-j Inv-loop μ-loop
 add-j c = search needs
@@ -66,19 +68,17 @@ loop-less : tie.Need-loop-less Inv-loop μ-loop
 loop-less c = search needs
 
 loop-again : tie.Need-loop-again Inv-loop μ-loop
-loop-again c = let a = c .before .before .before .before .before .before .before .before .before .before .before .before .before .args in
+loop-again c = let a = start (c .before .before .before .before .before) .args in
     let l = c .before .before .before .before .loop in
-    let e : c .path-size .result ≡ pathTakes (a .order .now) (a .lens .now) (a .k) (l .j) = c .path-size .ensures .0 ∙ ap (λ q. 1 + at (a .lens .now) q) (c .before .wide3 .ensures .0) in
+    let e : c .path-size .result ≡ pathTakes (a .order .now) (a .lens .now) (a .k) (l .j) = c .path-size .ensures .0 ∙ ap (λ q. 1 + at (a .lens .now) q) (c .before .wide2 .ensures .0) in
     (omega arith, omega (arith, total-more (pathTakes (a .order .now) (a .lens .now) (a .k)) (l .j)), omega arith)
 
 returns : tie.Need-returns Inv-loop μ-loop
 unfolding endTakes
-returns c = let a = c .before .before .before .before .before .before .before .before .before .before .args in
-    let p = c .before .before .before .before .before .before .before .before .before .before .pre in
+returns c = let q = c .before .before in
     let l = c .before .loop in
-    let e : c .before .before .wide2 .result ≡ at (a .many .now) (at (a .rows .now) (a .k)) = c .before .before .wide2 .ensures .0 ∙ ap (at (a .many .now)) (c .before .before .before .before .wide .ensures .0) in
-    let z : l .j ≡ at (a .many .now) (at (a .rows .now) (a .k)) = omega arith in
-    (rw (← z) (l .inv .1), omega (arith, p .0 .paths-few (a .k) (p .1)))
+    let z : l .j ≡ many (start q .args .rows .now) (at (start q .args .ends .now) (start q .args .k)) = omega (arith, known q) in
+    (rw (← z) (l .inv .1), omega (arith, q .paths-of .ensures .1))
 
 pub end-size-spec : {M : Type 1} → statement M
 end-size-spec =
@@ -88,13 +88,12 @@ end-size-spec =
     μ-loop
     shared-slice-read-wide
     wide-requires
-    shared-slice-read-wide-2
-    wide-requires-2
+    paths-of-requires
     loop-holds
     mul-wide
     add-wide
-    shared-slice-read-wide-3
-    wide-requires-3
+    shared-slice-read-wide-2
+    wide-requires-2
     path-size-requires
     add-taken
     add-j

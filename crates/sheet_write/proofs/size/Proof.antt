@@ -4,16 +4,16 @@ use mathlib.Core.Path.{_≡_}
 use native.Mathlib.Omega.{arith}
 use Rattle.wire.specs.Totals.{total}
 use Rattle.wire.proofs.Runs.{total-more}
-use Rattle.sheet_write.specs.Listing.{endTakes, sheetTakes}
+use Rattle.sheet_write.specs.Listing.{mostEndSize, endTakes, sheetTakes}
 use borrow.Author.Needs.{needs}
 use Rattle.sheet_write.proofs.size.Statement.{statement}
 use Rattle.sheet_write.proofs.size.Tie as tie
 
 abbrev Inv-loop : tie.InvT-loop
-Inv-loop many rows order lens n taken₀ k₀ taken k = (k ≤ n) × (taken ≡ 4 + total (endTakes many rows order lens) k) × (taken ≤ 4 + 2055 * k)
+Inv-loop rows ends order lens n taken₀ k₀ taken k = (k ≤ n) × (taken ≡ 4 + total (endTakes rows ends order lens) k) × (taken ≤ 4 + mostEndSize * k)
 
 abbrev μ-loop : tie.MeasureT-loop
-μ-loop many rows order lens n taken₀ k₀ taken k = n - k
+μ-loop rows ends order lens n taken₀ k₀ taken k = n - k
 
 loop-holds : tie.Need-loop-holds Inv-loop μ-loop
 unfolding total
@@ -33,7 +33,7 @@ loop-less c = search needs
 
 loop-again : tie.Need-loop-again Inv-loop μ-loop
 loop-again c = let a = c .before .before .before .before .before .before .before .args in
-    (omega arith, omega (arith, total-more (endTakes (a .many .now) (a .rows .now) (a .order .now) (a .lens .now)) (c .before .before .loop .k)), omega arith)
+    (omega arith, omega (arith, total-more (endTakes (a .rows .now) (a .ends .now) (a .order .now) (a .lens .now)) (c .before .before .loop .k)), omega arith)
 
 returns : tie.Need-returns Inv-loop μ-loop
 unfolding sheetTakes

@@ -5,6 +5,9 @@ use borrow.Author.Needs.{needs}
 use Rattle.sheet_write.proofs.write.Statement.{statement}
 use Rattle.sheet_write.proofs.write.Tie as tie
 
+abbrev start : tie.After-write-head → tie.Start
+start c = c .before .before .before .before .before .before .before .before
+
 cast-write-head : tie.Need-cast-write-head
 cast-write-head c = search needs
 
@@ -15,12 +18,13 @@ write-ends-requires : tie.Need-write-ends-requires
 write-ends-requires c κs = search needs
 
 same-length : tie.Need-same-length
-same-length c = c .before .before .write-ends .kept .1 .1 .1 .1 .1 .1 .1 .1 .1 .0 ∙ c .before .before .before .before .before .before .write-head .kept .1 .1 .0
+same-length c = search needs
 
 returns : tie.Need-returns
-returns c = let a = c .before .before .before .before .before .before .before .before .before .before .before .before .before .before .before .before .before .args in
-    let p = c .before .before .before .before .before .before .before .before .before .before .before .before .before .before .before .before .before .pre in
-    c .before .before .write-ends .ensures ∙ rw (c .before .before .before .before .before .before .write-head .ensures) (sheet-is (p .0) (a .out .now) (a .len) (p .1) (p .3))
+returns c = let h = c .before .before .before .before .before .before in
+    let a = start h .args in
+    let p = start h .pre in
+    c .before .before .write-ends .ensures ∙ rw (h .write-head .ensures) (sheet-is (p .0) (a .out .now) (a .len) (p .1) (p .3))
 
 pub write-spec : {M : Type 1} → statement M
 write-spec =

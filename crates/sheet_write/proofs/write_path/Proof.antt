@@ -9,6 +9,13 @@ use borrow.Author.Needs.{needs}
 use Rattle.sheet_write.proofs.write_path.Statement.{statement}
 use Rattle.sheet_write.proofs.write_path.Tie as tie
 
+-- ---- places, each from a later one
+abbrev start-from-slice-known : tie.After-slice-known → tie.Start
+start-from-slice-known c = c .before .before .before
+
+abbrev start-from-slice-known2 : tie.After-slice-known2 → tie.Start
+start-from-slice-known2 c = start-from-slice-known (c .before .before .before .before .before .before .before)
+
 shared-slice-read-wide : tie.Need-shared-slice-read-wide
 shared-slice-read-wide c = search needs
 
@@ -46,7 +53,7 @@ same-length : tie.Need-same-length
 same-length c = omega (arith, simp (length-sets, length-set) at (ap length (c .before .before .copy .ensures)))
 
 returns : tie.Need-returns
-returns c = let a = c .before .before .before .before .before .before .before .before .before .before .args in
+returns c = let a = start-from-slice-known2 c .args in
     let w : c .before .before .before .before .before .wide .result ≡ at (a .lens .now) (a .q) = omega arith in
     (omega arith, c .before .before .copy .ensures ∙ rw w (path-is (a .lens .now) (a .cells .now) (a .q) (a .out .now) (a .to)))
 

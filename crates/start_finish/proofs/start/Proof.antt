@@ -4,6 +4,13 @@ use borrow.Author.Needs.{needs}
 use Rattle.start_finish.proofs.start.Statement.{statement}
 use Rattle.start_finish.proofs.start.Tie as tie
 
+-- ---- places, each from a later one
+abbrev start-from-shared-slice-known : tie.After-shared-slice-known → tie.Start
+start-from-shared-slice-known c = c .before
+
+abbrev start-from-slice-known2 : tie.After-slice-known2 → tie.Start
+start-from-slice-known2 c = start-from-shared-slice-known (c .before .before .before .before .before .before .before)
+
 nothing-requires : tie.Need-nothing-requires
 nothing-requires c κs = search needs
 
@@ -16,7 +23,7 @@ same-length : tie.Need-same-length
 same-length c = search needs
 
 returns : tie.Need-returns
-returns c = let b = c .before .before .before .before .before .before .before .before in
+returns c = let b = start-from-slice-known2 c in
     let a = b .args in
     let n = c .before .before .before .before .nothing in
     let d = c .before .before .deliver in

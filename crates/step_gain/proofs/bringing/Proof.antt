@@ -1,5 +1,5 @@
 -- `bringing`: one end after the other. The invariant: the word has those passed that are taken and have a value. Assumes nothing.
-use mathlib.Core.Path.{_≡_, sym, _∙_}
+use mathlib.Core.Path.{_≡_, sym, ap, _∙_}
 use mathlib.Core.Bool.{Bool, not, _&&_}
 use mathlib.Core.Logic.{⊎-elim}
 use Prim.Native.Nat.{ℕ, _-_, _≤_}
@@ -21,9 +21,18 @@ abbrev μ-loop : tie.MeasureT-loop
 loop-holds : tie.Need-loop-holds Inv-loop μ-loop
 loop-holds c = (omega arith, marks-nil _)
 
+shared-slice-read-wide : tie.Need-shared-slice-read-wide Inv-loop μ-loop
+shared-slice-read-wide c = omega (arith, c .before .before .before .before .before .pre .0 .many)
+
+wide-requires : tie.Need-wide-requires Inv-loop μ-loop
+wide-requires c κs = search needs
+
+shared-slice-read-brings-value : tie.Need-shared-slice-read-brings-value Inv-loop μ-loop
+shared-slice-read-brings-value c = let l = c .before .before .before .before in
+    omega (arith, c .before .wide .ensures .0, l .before .before .before .pre .0 .each-inside (l .loop .k) (c .before .before .before .loop-test .taken))
+
 brings-value-requires : tie.Need-brings-value-requires Inv-loop μ-loop
-brings-value-requires c κs = let p = c .before .before .before .before .pre in
-    (omega (arith, p .0 .many), p .0 .each-inside (c .before .loop .k) (c .loop-test .taken), omega arith)
+brings-value-requires c κs = search needs
 
 end-of-requires : tie.Need-end-of-requires Inv-loop μ-loop
 end-of-requires c κs = search needs
@@ -35,9 +44,11 @@ loop-less : tie.Need-loop-less Inv-loop μ-loop
 loop-less c = search needs
 
 loop-again : tie.Need-loop-again Inv-loop μ-loop
-loop-again c = let a = c .before .before .before .before .before .before .args in
-    let s = c .before .before .before .loop in
-    let e = c .before .brings-value .ensures in
+loop-again c = let b = c .before .before .before .before .before .before in
+    let a = b .before .before .before .args in
+    let s = b .loop in
+    let e = c .before .brings-value .ensures
+    ∙ ap (λ (y : ℕ). has (a .c) (s .k) && not (eqb (at (a .valued .now) y) 0)) (c .before .before .before .wide .ensures .0) in
     let p : ℕ → Bool = λ j. has (a .c) j && not (eqb (at (a .valued .now) (at (a .row .now) j)) 0) in (
       omega arith,
       ⊎-elim
@@ -58,6 +69,9 @@ bringing-spec =
     Inv-loop
     μ-loop
     loop-holds
+    shared-slice-read-wide
+    wide-requires
+    shared-slice-read-brings-value
     brings-value-requires
     end-of-requires
     add-k

@@ -1,31 +1,33 @@
 -- `gain`: one node after the other, each behind the one before. The invariant: what is stored is no more than the ends of the word below. Assumes nothing.
-use mathlib.Core.Path.{_≡_, _∙_}
+use mathlib.Core.Path.{_≡_, refl, ap, _∙_}
 use mathlib.Core.Bool.{false}
 use mathlib.Core.List.{List}
 use mathlib.Core.Logic.{⊎-elim}
-use Prim.Native.Nat.{ℕ, _+_, _-_, _≤_}
+use Prim.Native.Nat.{ℕ, _+_, _*_, _-_, _≤_}
 use native.Mathlib.Omega.{arith}
-use lib.ListN.{length}
+use lib.ListN.{length, set}
 use lib.Seq.{sets}
 use Rattle.paper.specs.Lists.{at, has, gather}
 use Rattle.paper.specs.Bytes.{four}
 use Rattle.paper.specs.Limits.{limits}
 use Rattle.words.specs.Marks.{MarksOf, placed}
 use Rattle.table.proofs.Reading.{blank}
+use Rattle.marking_held.specs.declared.Held.{Held}
 use Rattle.step_gain.specs.Gains.{coming}
 use Rattle.step_gain.proofs.Gaining.{Laid, laid-none, laid-room, laid-more, coming-most, before-more, before-most}
 use Rattle.step_gain.proofs.Touching.{nothing-came}
-use Rattle.step_gain.proofs.GainedHeld.{gained-lengths, gained-held}
+use Rattle.step_gain.proofs.GainedHeld.{gainedHeld, gained-lengths, gained-held}
 use borrow.Author.Needs.{needs}
 use Rattle.step_gain.proofs.gain.Statement.{statement}
 use Rattle.step_gain.proofs.gain.Tie as tie
 
 abbrev Inv-loop : tie.InvT-loop
-Inv-loop value w extra₀ held target row n nodes place₀ more₀ reached to₀ i₀ extra place more to i =
-    (i ≤ nodes) × Laid target row value w n extra₀ place₀ more₀ extra place more to i
+Inv-loop value w extra₀ held₀ target row n nodes reached to₀ i₀ extra held to i =
+    (i ≤ nodes) × (held ≡ gainedHeld held₀ (held .place) (held .more))
+    × Laid target row value w n extra₀ (held₀ .place) (held₀ .more) extra (held .place) (held .more) to i
 
 abbrev μ-loop : tie.MeasureT-loop
-μ-loop value w extra₀ held target row n nodes place₀ more₀ reached to₀ i₀ extra place more to i = nodes - i
+μ-loop value w extra₀ held₀ target row n nodes reached to₀ i₀ extra held to i = nodes - i
 
 -- ---- the way back to the entry, from the place where the nodes are marked
 abbrev start : tie.After-reached2 Inv-loop μ-loop → tie.Start Inv-loop μ-loop
@@ -57,7 +59,7 @@ module _ (c : tie.Joined1 Inv-loop μ-loop) where
       (omega (arith, entry .pre .0)) (w .0 .left) in
       (w .2 ∙ g .0, w .1 ∙ g .1)) (c .if1 .came)
 
-  few : c .if1 .many ≤ 20
+  few : c .if1 .many ≤ limits .mostEnds
   few =
       let a = entry .args in
       let e = a .ends in
@@ -65,11 +67,11 @@ module _ (c : tie.Joined1 Inv-loop μ-loop) where
       let most = coming-most (e .target) (e .row) (a .value .now) (a .w) (e .count) i in
       omega (arith, stored .0, most, before-more (e .target) (a .w) (e .count) i, before-most (e .target) (a .w) (e .count) (i + 1), entry .pre .1 .few)
 
-  place-few : c .before .before .loop .to ≤ 80
+  place-few : c .before .before .loop .to ≤ 4 * limits .mostEnds
   place-few =
       let a = entry .args in
       let l = c .before .before .loop in
-      omega (arith, l .inv .1 .room, before-most (a .ends .target) (a .w) (a .ends .count) (l .i), entry .pre .1 .few)
+      omega (arith, l .inv .2 .room, before-most (a .ends .target) (a .w) (a .ends .count) (l .i), entry .pre .1 .few)
 
 slice-aggregate-mark-column : tie.Need-slice-aggregate-mark-column Inv-loop μ-loop
 slice-aggregate-mark-column c = search needs
@@ -81,7 +83,9 @@ mark-column-requires : tie.Need-mark-column-requires Inv-loop μ-loop
 mark-column-requires c κs = search needs
 
 loop-holds : tie.Need-loop-holds Inv-loop μ-loop
-loop-holds c = let a = start c .args in (omega arith, laid-none (a .ends .target) (a .ends .row) (a .value .now) (a .w) (a .ends .count) (a .extra .now) _ _)
+loop-holds c = let a = start c .args in
+    let e = a .ends in
+    (omega arith, refl, laid-none (e .target) (e .row) (a .value .now) (a .w) (e .count) (a .extra .now) _ _)
 
 array-read-if1 : tie.Need-array-read-if1 Inv-loop μ-loop
 array-read-if1 c = search needs
@@ -97,23 +101,23 @@ gain-node-requires c κs = let l = c .before .before .before .before .before in
     let s = start (l .before) in
     let a = s .args in
     let p = s .pre in
-    let room = laid-room (a .ends .target) (a .ends .row) (a .value .now) (a .w) (a .ends .count) (l .loop .inv .1) (p .1 .few) (p .3) in
+    let room = laid-room (a .ends .target) (a .ends .row) (a .value .now) (a .w) (a .ends .count) (l .loop .inv .2) (p .1 .few) (p .3) in
     (p .1 .few, omega (arith, p .1 .few, p .1 .targets-full), p .2, room)
 
-cast-place : tie.Need-cast-place Inv-loop μ-loop
-cast-place c = omega (arith, place-few c)
+cast-held : tie.Need-cast-held Inv-loop μ-loop
+cast-held c = omega (arith, place-few c)
 
-mul-place : tie.Need-mul-place Inv-loop μ-loop
-mul-place c = search needs
+mul-held : tie.Need-mul-held Inv-loop μ-loop
+mul-held c = search needs
 
-array-write-place : tie.Need-array-write-place Inv-loop μ-loop
-array-write-place c = omega (arith, c .before .before .loop .inv .1 .place-long, entry c .pre .0)
+element-write-held : tie.Need-element-write-held Inv-loop μ-loop
+element-write-held c = search needs
 
-cast-more : tie.Need-cast-more Inv-loop μ-loop
-cast-more c = omega (arith, few (c .before))
+cast-held-2 : tie.Need-cast-held-2 Inv-loop μ-loop
+cast-held-2 c = omega (arith, few (c .before))
 
-array-write-more : tie.Need-array-write-more Inv-loop μ-loop
-array-write-more c = omega (arith, c .before .before .before .loop .inv .1 .more-long, entry (c .before) .pre .0)
+element-write-held-2 : tie.Need-element-write-held-2 Inv-loop μ-loop
+element-write-held-2 c = search needs
 
 mul-to : tie.Need-mul-to Inv-loop μ-loop
 mul-to c = omega (arith, few (c .before))
@@ -130,25 +134,27 @@ loop-less c = search needs
 loop-again : tie.Need-loop-again Inv-loop μ-loop
 loop-again c = let s = entry (c .before) in
     let a = s .args in
-    let l = c .before .before .before .loop .inv .1 in
-    let g = stored (c .before) in (
+    let l = c .before .before .before .loop in
+    let g = stored (c .before) in
+    let h = s .pre .4 in (
       omega arith,
-      laid-more (a .ends .target) (a .ends .row) (a .value .now) (a .w) (a .ends .count) l _ (c .before .if1 .many) (s .pre .1 .few) (s .pre .3)
-          (omega (arith, l .place-long, s .pre .0)) (omega (arith, l .more-long, s .pre .0)) (g .0) (g .1),
+      ap (λ (z : Held). gainedHeld z (set (l .held .place) (l .i) (l .to)) (set (l .held .more) (l .i) (c .before .if1 .many))) (l .inv .1),
+      laid-more (a .ends .target) (a .ends .row) (a .value .now) (a .w) (a .ends .count) (l .inv .2) _ (c .before .if1 .many) (s .pre .1 .few) (s .pre .3)
+          (omega (arith, l .inv .2 .place-long, h .place-long, s .pre .0)) (omega (arith, l .inv .2 .more-long, h .more-long, s .pre .0)) (g .0) (g .1),
     )
 
 same-length : tie.Need-same-length Inv-loop μ-loop
-same-length c = c .before .loop .inv .1 .extra-long
+same-length c = c .before .loop .inv .2 .extra-long
 
 returns : tie.Need-returns Inv-loop μ-loop
 returns c = let b = start (c .before .before) in
     let a = b .args in
     let e = a .ends in
     let s = c .before .loop in
-    let v = s .inv .1 in
+    let v = s .inv .2 in
     let q : s .i ≡ a .table .nodes = omega arith in (
-      gained-lengths (a .held) (s .place) (s .more) (b .pre .4) (v .place-long) (v .more-long),
-      λ t m old z fits. gained-held (e .target) (e .row) (a .value .now) (a .w) (e .count) (b .pre .1 .few) (a .held) (s .extra) (s .place) (s .more)
+      gained-lengths (a .t6) (s .held) (s .inv .1) (b .pre .4) (v .place-long) (v .more-long),
+      λ t m old z fits. gained-held (a .t6) (s .held) (s .inv .1) (e .target) (e .row) (a .value .now) (a .w) (e .count) (b .pre .1 .few) (s .extra)
           (λ i l. v .stand i l .0) t m old (q ∙ z .nodes-read) (λ i l. fits i (omega arith)),
     )
 
@@ -166,11 +172,11 @@ gain-spec =
     slice-aggregate-gain-node
     slice-aggregate-gain-node-2
     gain-node-requires
-    cast-place
-    mul-place
-    array-write-place
-    cast-more
-    array-write-more
+    cast-held
+    mul-held
+    element-write-held
+    cast-held-2
+    element-write-held-2
     mul-to
     add-to
     add-i

@@ -11,15 +11,8 @@ in-word-requires c κs = search needs
 returns : tie.Need-returns
 returns c = sym (rw (sym (c .before .in-word .ensures) ∙ not-true _ (c .if1 .taken)))
 
-mul-result : tie.Need-mul-result
-mul-result c = search needs
-
-shared-slice-read-result : tie.Need-shared-slice-read-result
-shared-slice-read-result c = search needs
-
 returns-2 : tie.Need-returns-2
-returns-2 c = sym (rw (sym (c .before .before .in-word .ensures) ∙ not-false _ (c .before .if1 .left)))
+returns-2 c = sym (rw (sym (c .before .in-word .ensures) ∙ not-false _ (c .if1 .left)))
 
 pub is-first-spec : {M : Type 1} → statement M
-is-first-spec =
-    tie.close (tie.spec in-word-requires returns mul-result shared-slice-read-result returns-2)
+is-first-spec = tie.close (tie.spec in-word-requires returns returns-2)

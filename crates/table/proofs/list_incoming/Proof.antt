@@ -1,16 +1,16 @@
 -- `table::list_incoming` meets its contract: the loop has listed the edges from j on. Assumes nothing.
-use mathlib.Core.Path.{_≡_, sym, ap, _∙_, subst}
+use mathlib.Core.Path.{_≡_, sym, _∙_, subst}
 use Prim.Native.Nat.{_+_, _-_, _≤_, _<_}
 use native.Mathlib.Omega.{arith}
 use lib.ListN.{length, length-set}
 use borrow.Author.Needs.{needs}
-use Rattle.paper.specs.Table.{edges}
-use Rattle.table.proofs.Incoming.{Begun, begun-none, begun-more, begun-all}
+use Rattle.paper.specs.Table.{nodes, edges, target}
+use Rattle.table.proofs.Incoming.{Begun, begun-none, begun-more, begun-all, incoming-listed}
 use Rattle.table.proofs.list_incoming.Statement.{statement}
 use Rattle.table.proofs.list_incoming.Tie as tie
 
 abbrev Inv-loop : tie.InvT-loop
-Inv-loop t table first₀ next₀ j₀ first next j = ((j ≤ edges t) × ((length first ≡ length first₀) × (length next ≡ length next₀))) × Begun t first next j
+Inv-loop t table first₀ next₀ j₀ first next j = ((j ≤ edges t) × ((length first ≡ length first₀) × (length next ≡ length next₀))) × Begun (target t) (edges t) (nodes t) first next j
 
 abbrev μ-loop : tie.MeasureT-loop
 μ-loop t table first₀ next₀ j₀ first next j = j
@@ -21,8 +21,9 @@ loop-holds c =
     let p = c .before .before .before .pre in
     let e = p .spans .edges-read in (
       (omega arith, search needs),
-      subst (λ z. Begun (a .t .now) (a .first .now) (a .next .now) z) (sym e)
-          (begun-none (a .t .now) (a .first .now) (a .next .now) (p .spans .few-nodes) (p .spans .few-edges) (p .firsts-blank) (p .nexts-blank)),
+      subst (λ z. Begun (target (a .t .now)) (edges (a .t .now)) (nodes (a .t .now)) (a .first .now) (a .next .now) z) (sym e)
+          (begun-none (target (a .t .now)) (edges (a .t .now)) (nodes (a .t .now)) (a .first .now) (a .next .now) (p .spans .few-edges) (p .spans .few-nodes)
+          (p .firsts-blank) (p .nexts-blank)),
     )
 
 sub-j : tie.Need-sub-j Inv-loop μ-loop
@@ -70,9 +71,10 @@ loop-again c =
     let node = p .targets j lt in
     let e : l .j ≡ j + 1 = omega (arith, c .before .before .loop-test .taken) in (
       (omega (arith, lt), (length-set (l .first) i j ∙ l .inv .0 .1 .0, length-set (l .next) j _ ∙ l .inv .0 .1 .1)),
-      begun-more (a .t .now) (l .first) (l .next) j i (sym at) lt (p .spans .few-edges) (omega (arith, lt, p .spans .few-edges, p .nexts-blank .room, l .inv .0 .1 .1))
+      begun-more (target (a .t .now)) (edges (a .t .now)) (nodes (a .t .now)) (l .first) (l .next) j i (sym at) lt (p .spans .few-edges)
+          (omega (arith, lt, p .spans .few-edges, p .nexts-blank .room, l .inv .0 .1 .1))
           (omega (arith, at, node, p .spans .few-nodes, p .firsts-blank .room, l .inv .0 .1 .0))
-          (subst (λ z. Begun (a .t .now) (l .first) (l .next) z) e (l .inv .1)) (omega (arith, at, node)),
+          (subst (λ z. Begun (target (a .t .now)) (edges (a .t .now)) (nodes (a .t .now)) (l .first) (l .next) z) e (l .inv .1)) (omega (arith, at, node)),
     )
 
 same-length : tie.Need-same-length Inv-loop μ-loop
@@ -84,8 +86,7 @@ same-length-2 c = search needs
 returns : tie.Need-returns Inv-loop μ-loop
 returns c =
     let l = c .before .loop in
-    let a = c .before .before .before .before .before .args in
-    begun-all (a .t .now) (l .first) (l .next) (l .j) (omega (arith, c .loop-test .left)) (l .inv .1)
+    incoming-listed (begun-all (l .j) (omega (arith, c .loop-test .left)) (l .inv .1))
 
 pub list-incoming-spec : {M : Type 1} → statement M
 list-incoming-spec =

@@ -24,6 +24,67 @@ module _ (t : List ℕ) (j : ℕ) {k s m : ℕ} (ek : k ≡ edgeKind t j) (es : 
       rw (← ek, ← es, ← eo, ← eg)
       (rw (← em, ← en) (rw (le-leb _ _ lk, lt-ltb _ _ ls, lt-ltb _ _ lo, le-leb _ _ lg, hl) h))
 
+-- ---- places, each from a later one
+abbrev start-from-edge-kind : tie.After-edge-kind → tie.Start
+start-from-edge-kind c = c .before .before
+
+abbrev start-from-then3 : tie.Then3 → tie.Start
+start-from-then3 c = start-from-edge-kind (c .before .before .before .before .before .before .before)
+
+abbrev start-from-else3 : tie.Else3 → tie.Start
+start-from-else3 c = start-from-edge-kind (c .before .before .before .before .before .before .before)
+
+abbrev start-from-then4 : tie.Then4 → tie.Start
+start-from-then4 c = start-from-else3 (c .before .before)
+
+abbrev start-from-then5 : tie.Then5 → tie.Start
+start-from-then5 c = start-from-else3 (c .before .before .before .before .before)
+
+abbrev edge-kind-from-target : tie.After-target → tie.After-edge-kind
+edge-kind-from-target c = c .before .before .before .before .before
+
+abbrev edge-kind-from-then5 : tie.Then5 → tie.After-edge-kind
+edge-kind-from-then5 c = edge-kind-from-target (c .before .before .before .before .before .before .before)
+
+abbrev source-from-target : tie.After-target → tie.After-source
+source-from-target c = c .before .before .before
+
+abbrev source-from-then5 : tie.Then5 → tie.After-source
+source-from-then5 c = source-from-target (c .before .before .before .before .before .before .before)
+
+abbrev start-from-may-enter : tie.After-may-enter → tie.Start
+start-from-may-enter c = start-from-else3 (c .before .before .before .before .before .before .before)
+
+abbrev edge-kind-from-else3 : tie.Else3 → tie.After-edge-kind
+edge-kind-from-else3 c = c .before .before .before .before .before .before .before
+
+abbrev edge-kind-from-may-enter : tie.After-may-enter → tie.After-edge-kind
+edge-kind-from-may-enter c = edge-kind-from-else3 (c .before .before .before .before .before .before .before)
+
+abbrev source-from-else3 : tie.Else3 → tie.After-source
+source-from-else3 c = c .before .before .before .before .before
+
+abbrev source-from-may-enter : tie.After-may-enter → tie.After-source
+source-from-may-enter c = source-from-else3 (c .before .before .before .before .before .before .before)
+
+abbrev target-from-else3 : tie.Else3 → tie.After-target
+target-from-else3 c = c .before .before
+
+abbrev target-from-may-enter : tie.After-may-enter → tie.After-target
+target-from-may-enter c = target-from-else3 (c .before .before .before .before .before .before .before)
+
+abbrev else1-from-else3 : tie.Else3 → tie.Else1
+else1-from-else3 c = c .before .before .before .before .before .before
+
+abbrev else1-from-may-enter : tie.After-may-enter → tie.Else1
+else1-from-may-enter c = else1-from-else3 (c .before .before .before .before .before .before .before)
+
+abbrev else2-from-else3 : tie.Else3 → tie.Else2
+else2-from-else3 c = c .before .before .before
+
+abbrev else2-from-may-enter : tie.After-may-enter → tie.Else2
+else2-from-may-enter c = else2-from-else3 (c .before .before .before .before .before .before .before)
+
 edge-kind-requires : tie.Need-edge-kind-requires
 edge-kind-requires c κs = c .before .pre
 
@@ -47,17 +108,17 @@ target-requires c κs = c .before .before .before .before .before .before .pre
 returns-3 : tie.Need-returns-3
 unfolding edgeFine
 returns-3 c =
-    let a = c .before .before .before .before .before .before .before .before .before .args in
+    let a = start-from-then3 c .args in
     let f : ltb (target (a .s .now) (a .j)) (nodes (a .s .now)) ≡ false = omega (arith, le-ltb) in
     simp (f, and-false)
 
 guarded-requires : tie.Need-guarded-requires
-guarded-requires c κs = c .before .before .before .before .before .before .before .before .before .pre
+guarded-requires c κs = start-from-else3 c .pre
 
 returns-4 : tie.Need-returns-4
 unfolding edgeFine
 returns-4 c =
-    let a = c .before .before .before .before .before .before .before .before .before .before .before .args in
+    let a = start-from-then4 c .args in
     let f : leb (guarded (a .s .now) (a .j)) 1 ≡ false = omega (arith, lt-leb) in
     simp (f, and-false)
 
@@ -68,7 +129,7 @@ may-leave-requires : tie.Need-may-leave-requires
 may-leave-requires c κs = search needs
 
 returns-5 : tie.Need-returns-5
-returns-5 c = leave-bad (c .before .before .before .before .before .before .before .before .before .before .before .before .before .before .args .s .now) (c .before .before .before .before .before .before .before .before .before .before .before .before .before .before .args .j) (c .before .before .before .before .before .before .before .before .before .before .before .before .edge-kind .ensures .0) (c .before .before .before .before .before .before .before .before .before .before .source .ensures .0) (c .before .before .kind .ensures .0) (sym (c .before .may-leave .ensures) ∙ not-true _ (c .if5 .taken))
+returns-5 c = leave-bad (start-from-then5 c .args .s .now) (start-from-then5 c .args .j) (edge-kind-from-then5 c .edge-kind .ensures .0) (source-from-then5 c .source .ensures .0) (c .before .before .kind .ensures .0) (sym (c .before .may-leave .ensures) ∙ not-true _ (c .if5 .taken))
 
 kind-requires-2 : tie.Need-kind-requires-2
 kind-requires-2 c κs = search needs
@@ -78,9 +139,9 @@ may-enter-requires c κs = search needs
 
 returns-6 : tie.Need-returns-6
 returns-6 c =
-    let r = c .before .before .before .before .before .before .before .before .before .before .before .before .before .before .before .before .pre .0 .nodes-read in
-    edge-by (c .before .before .before .before .before .before .before .before .before .before .before .before .before .before .before .before .args .s .now) (c .before .before .before .before .before .before .before .before .before .before .before .before .before .before .before .before .args .j) (c .before .before .before .before .before .before .before .before .before .before .before .before .before .before .edge-kind .ensures .0) (c .before .before .before .before .before .before .before .before .before .before .before .before .source .ensures .0) (c .before .before .before .before .kind .ensures .0) (c .before .before .before .before .before .before .before .before .before .target .ensures .0) (c .before .kind2 .ensures .0) (c .before .before .before .before .before .before .guarded .ensures .0)
-    (omega (arith, c .before .before .before .before .before .before .before .before .before .before .before .before .before .if1 .left)) (omega (arith, r, c .before .before .before .before .before .before .before .before .before .before .if2 .left)) (omega (arith, r, c .before .before .before .before .before .before .before .if3 .left)) (omega (arith, c .before .before .before .before .before .if4 .left))
+    let r = start-from-may-enter c .pre .0 .nodes-read in
+    edge-by (start-from-may-enter c .args .s .now) (start-from-may-enter c .args .j) (edge-kind-from-may-enter c .edge-kind .ensures .0) (source-from-may-enter c .source .ensures .0) (c .before .before .before .before .kind .ensures .0) (target-from-may-enter c .target .ensures .0) (c .before .kind2 .ensures .0) (c .before .before .before .before .before .before .guarded .ensures .0)
+    (omega (arith, else1-from-may-enter c .if1 .left)) (omega (arith, r, else2-from-may-enter c .if2 .left)) (omega (arith, r, c .before .before .before .before .before .before .before .if3 .left)) (omega (arith, c .before .before .before .before .before .if4 .left))
     (sym (c .before .before .before .may-leave .ensures) ∙ not-false _ (c .before .before .if5 .left)) (c .may-enter .ensures)
 
 pub edge-fine-spec : {M : Type 1} → statement M

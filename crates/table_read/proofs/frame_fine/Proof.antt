@@ -13,6 +13,25 @@ use Rattle.paper.specs.Table.{version, nodes, edges, edgeAt, frameFine}
 use Rattle.table_read.proofs.frame_fine.Statement.{statement}
 use Rattle.table_read.proofs.frame_fine.Tie as tie
 
+-- ---- places, each from a later one
+abbrev start-from-read16 : tie.After-read16 → tie.Start
+start-from-read16 c = c .before .before .before
+
+abbrev start-from-then4 : tie.Then4 → tie.Start
+start-from-then4 c = start-from-read16 (c .before .before .before .before .before .before .before)
+
+abbrev start-from-else2 : tie.Else2 → tie.Start
+start-from-else2 c = c .before .before .before .before
+
+abbrev start-from-then5 : tie.Then5 → tie.Start
+start-from-then5 c = start-from-else2 (c .before .before .before .before .before .before .before)
+
+abbrev start-from-shared-slice-known2 : tie.After-shared-slice-known2 → tie.Start
+start-from-shared-slice-known2 c = c .before .before .before .before .before
+
+abbrev start-from-edge-at : tie.After-edge-at → tie.Start
+start-from-edge-at c = start-from-shared-slice-known2 (c .before .before .before .before .before .before .before)
+
 returns : tie.Need-returns
 unfolding frameFine
 returns c =
@@ -58,14 +77,14 @@ within-requires c κs = search needs
 returns-4 : tie.Need-returns-4
 unfolding frameFine
 returns-4 c =
-    let t = c .before .before .before .before .before .before .before .before .before .before .args .s .now in
+    let t = start-from-then4 c .args .s .now in
     let f : within 1 (limits .mostNodes) (nodes t) ≡ false = rw (← c .before .before .counts .ensures .0) (sym (c .before .within .ensures) ∙ not-true _ (c .if4 .taken)) in
     simp (f, and-false)
 
 returns-5 : tie.Need-returns-5
 unfolding frameFine
 returns-5 c =
-    let t = c .before .before .before .before .before .before .before .before .before .before .before .args .s .now in
+    let t = start-from-then5 c .args .s .now in
     let f : leb (edges t) (limits .mostEdges) ≡ false = omega (arith, lt-leb) in
     simp (f, and-false)
 
@@ -75,7 +94,7 @@ edge-at-requires c κs = search needs
 returns-6 : tie.Need-returns-6
 unfolding frameFine version
 returns-6 c =
-    let t = c .before .before .before .before .before .before .before .before .before .before .before .before .args .s .now in
+    let t = start-from-edge-at c .args .s .now in
     let f1 : eqb (at t 0 * 256 + at t 1 + 2) (length t) ≡ true = omega (arith, eq-eqb) in
     let f2 : eqb (at t 2) 1 ≡ true = omega (arith, eq-eqb) in
     let f3 : within 1 (limits .mostNodes) (nodes t) ≡ true = rw (← c .before .before .before .before .counts .ensures .0) (sym (c .before .before .before .within .ensures) ∙ not-false _ (c .before .before .if4 .left)) in

@@ -27,6 +27,43 @@ module _ (t : List ℕ) (i : ℕ) {k : ℕ} (ek : k ≡ kind t i) where
   unfolding nodeFine
   node-by eo eu el hk ho hu h = rw (← ek, ← eo, ← eu, ← el) (rw (hk, ho, hu) h)
 
+-- ---- places, each from a later one
+abbrev start-from-within : tie.After-within → tie.Start
+start-from-within c = c .before .before .before
+
+abbrev start-from-then3 : tie.Then3 → tie.Start
+start-from-then3 c = start-from-within (c .before .before .before .before .before .before .before)
+
+abbrev kind-from-within : tie.After-within → tie.After-kind
+kind-from-within c = c .before
+
+abbrev kind-from-then3 : tie.Then3 → tie.After-kind
+kind-from-then3 c = kind-from-within (c .before .before .before .before .before .before .before)
+
+abbrev start-from-else3 : tie.Else3 → tie.Start
+start-from-else3 c = start-from-within (c .before .before .before .before .before .before .before)
+
+abbrev start-from-lower-fine : tie.After-lower-fine → tie.Start
+start-from-lower-fine c = start-from-else3 (c .before .before)
+
+abbrev kind-from-owner : tie.After-owner → tie.After-kind
+kind-from-owner c = c .before .before .before
+
+abbrev kind-from-lower-fine : tie.After-lower-fine → tie.After-kind
+kind-from-lower-fine c = kind-from-owner (c .before .before .before .before .before .before .before)
+
+abbrev within-from-owner : tie.After-owner → tie.After-within
+within-from-owner c = c .before .before
+
+abbrev within-from-lower-fine : tie.After-lower-fine → tie.After-within
+within-from-lower-fine c = within-from-owner (c .before .before .before .before .before .before .before)
+
+abbrev else1-from-owner : tie.After-owner → tie.Else1
+else1-from-owner c = c .before
+
+abbrev else1-from-lower-fine : tie.After-lower-fine → tie.Else1
+else1-from-lower-fine c = else1-from-owner (c .before .before .before .before .before .before .before)
+
 kind-requires : tie.Need-kind-requires
 kind-requires c κs = c .before .pre
 
@@ -53,17 +90,17 @@ upper-fine-requires : tie.Need-upper-fine-requires
 upper-fine-requires c κs = search needs
 
 returns-3 : tie.Need-returns-3
-returns-3 c = upper-bad (c .before .before .before .before .before .before .before .before .before .before .args .s .now) (c .before .before .before .before .before .before .before .before .before .before .args .i) (c .before .before .before .before .before .before .before .before .kind .ensures .0) (c .before .before .upper .ensures .0) (sym (c .before .upper-fine .ensures) ∙ not-true _ (c .if3 .taken))
+returns-3 c = upper-bad (start-from-then3 c .args .s .now) (start-from-then3 c .args .i) (kind-from-then3 c .kind .ensures .0) (c .before .before .upper .ensures .0) (sym (c .before .upper-fine .ensures) ∙ not-true _ (c .if3 .taken))
 
 lower-requires : tie.Need-lower-requires
-lower-requires c κs = c .before .before .before .before .before .before .before .before .before .before .pre
+lower-requires c κs = start-from-else3 c .pre
 
 lower-fine-requires : tie.Need-lower-fine-requires
 lower-fine-requires c κs = search needs
 
 returns-4 : tie.Need-returns-4
-returns-4 c = node-by (c .before .before .before .before .before .before .before .before .before .before .before .before .args .s .now) (c .before .before .before .before .before .before .before .before .before .before .before .before .args .i) (c .before .before .before .before .before .before .before .before .before .before .kind .ensures .0) (c .before .before .before .before .before .before .before .owner .ensures .0) (c .before .before .before .before .upper .ensures .0) (c .before .lower .ensures .0)
-    (sym (c .before .before .before .before .before .before .before .before .before .within .ensures) ∙ not-false _ (c .before .before .before .before .before .before .before .before .if1 .left)) (sym (c .before .before .before .before .before .before .owner-fine .ensures) ∙ not-false _ (c .before .before .before .before .before .if2 .left)) (sym (c .before .before .before .upper-fine .ensures) ∙ not-false _ (c .before .before .if3 .left)) (c .lower-fine .ensures)
+returns-4 c = node-by (start-from-lower-fine c .args .s .now) (start-from-lower-fine c .args .i) (kind-from-lower-fine c .kind .ensures .0) (c .before .before .before .before .before .before .before .owner .ensures .0) (c .before .before .before .before .upper .ensures .0) (c .before .lower .ensures .0)
+    (sym (within-from-lower-fine c .within .ensures) ∙ not-false _ (else1-from-lower-fine c .if1 .left)) (sym (c .before .before .before .before .before .before .owner-fine .ensures) ∙ not-false _ (c .before .before .before .before .before .if2 .left)) (sym (c .before .before .before .upper-fine .ensures) ∙ not-false _ (c .before .before .if3 .left)) (c .lower-fine .ensures)
 
 pub node-fine-spec : {M : Type 1} → statement M
 node-fine-spec =

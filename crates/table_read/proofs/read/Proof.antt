@@ -15,13 +15,56 @@ use Rattle.table_read.proofs.Laws.{row-1, row-2, row-3, row-4, no-row, 
 use Rattle.table_read.proofs.read.Statement.{statement}
 use Rattle.table_read.proofs.read.Tie as tie
 
+-- ---- places, each from a later one
+abbrev start-from-shared-slice-known : tie.After-shared-slice-known → tie.Start
+start-from-shared-slice-known c = c .before
+
+abbrev start-from-known-told : tie.After-known-told → tie.Start
+start-from-known-told c = start-from-shared-slice-known (c .before .before .before .before .before .before .before)
+
+abbrev start-from-counts : tie.After-counts → tie.Start
+start-from-counts c = c .before .before .before .before
+
+abbrev start-from-known-told2 : tie.After-known-told2 → tie.Start
+start-from-known-told2 c = start-from-counts (c .before .before .before .before .before .before .before)
+
+abbrev else1-from-counts : tie.After-counts → tie.Else1
+else1-from-counts c = c .before
+
+abbrev else1-from-known-told2 : tie.After-known-told2 → tie.Else1
+else1-from-known-told2 c = else1-from-counts (c .before .before .before .before .before .before .before)
+
+abbrev start-from-enum-told : tie.After-enum-told → tie.Start
+start-from-enum-told c = c .before .before .before .before .before .before .before
+
+abbrev start-from-known-told3 : tie.After-known-told3 → tie.Start
+start-from-known-told3 c = start-from-enum-told (c .before .before .before .before .before .before .before)
+
+abbrev else1-from-enum-told : tie.After-enum-told → tie.Else1
+else1-from-enum-told c = c .before .before .before .before
+
+abbrev else1-from-known-told3 : tie.After-known-told3 → tie.Else1
+else1-from-known-told3 c = else1-from-enum-told (c .before .before .before .before .before .before .before)
+
+abbrev counts-from-at-match-keys2 : tie.At-match-keys2 → tie.After-counts
+counts-from-at-match-keys2 c = c .before .before
+
+abbrev counts-from-enum-told3 : tie.After-enum-told3 → tie.After-counts
+counts-from-enum-told3 c = counts-from-at-match-keys2 (c .before .before .before .before .before .before .before)
+
+abbrev else1-from-enum-told3 : tie.After-enum-told3 → tie.Else1
+else1-from-enum-told3 c = else1-from-enum-told (c .before .before .before .before .before .before)
+
+abbrev start-from-enum-told2 : tie.After-enum-told2 → tie.Start
+start-from-enum-told2 c = start-from-enum-told (c .before .before .before)
+
 -- what is known once row 1, row 2 and row 3 have passed
 frame : (c : tie.Else1) → frameFine (c .before .before .before .args .s .now) limits ≡ true
 frame c = sym (c .before .frame-fine .ensures) ∙ not-false _ (c .if1 .left)
 
-spans : (c : tie.After-counts) → Spans (c .before .before .before .before .args .s .now) (c .counts .result)
+spans : (c : tie.After-counts) → Spans (start-from-counts c .args .s .now) (c .counts .result)
 spans c =
-    let f = frame-facts (c .before .before .before .before .args .s .now) limits (frame (c .before)) in
+    let f = frame-facts (start-from-counts c .args .s .now) limits (frame (c .before)) in
     record {
       nodes-read = c .counts .ensures .0;
       edges-read = c .counts .ensures .1;
@@ -30,10 +73,10 @@ spans c =
       whole = f .all-of-it;
     }
 
-nodes-pass : (c : tie.After-enum-told) → lowest (λ k. not (nodeFine (c .before .before .before .before .before .before .before .args .s .now) limits k)) (nodes (c .before .before .before .before .before .before .before .args .s .now)) ≡ none
+nodes-pass : (c : tie.After-enum-told) → lowest (λ k. not (nodeFine (start-from-enum-told c .args .s .now) limits k)) (nodes (start-from-enum-told c .args .s .now)) ≡ none
 nodes-pass c = sym (c .before .before .bad-node .ensures) ∙ ap found (c .enum-told .given .1)
 
-edges-pass : (c : tie.After-enum-told2) → lowest (λ k. not (edgeFine (c .before .before .before .before .before .before .before .before .before .before .args .s .now) k)) (edges (c .before .before .before .before .before .before .before .before .before .before .args .s .now)) ≡ none
+edges-pass : (c : tie.After-enum-told2) → lowest (λ k. not (edgeFine (start-from-enum-told2 c .args .s .now) k)) (edges (start-from-enum-told2 c .args .s .now)) ≡ none
 edges-pass c = sym (c .before .before .bad-edge .ensures) ∙ ap found (c .enum-told2 .given .1)
 
 frame-fine-requires : tie.Need-frame-fine-requires
@@ -53,7 +96,7 @@ enum-known-i c = search needs
 
 cast-t9 : tie.Need-cast-t9
 cast-t9 c =
-    let t = c .before .before .before .before .before .before .before .before .args .s .now in
+    let t = start-from-known-told c .args .s .now in
     let f = frame-facts t limits (frame (c .before .before .before .before .before)) in
     let b = found-below (λ k. not (nodeFine t limits k)) (nodes t) _ (sym (c .before .before .before .bad-node .ensures) ∙ ap found (c .before .i .given .1)) in
     omega arith
@@ -72,13 +115,13 @@ enum-known-j c = search needs
 
 cast-t11 : tie.Need-cast-t11
 cast-t11 c =
-    let t = c .before .before .before .before .before .before .before .before .before .before .before .args .s .now in
-    let f = frame-facts t limits (frame (c .before .before .before .before .before .before .before .before)) in
+    let t = start-from-known-told2 c .args .s .now in
+    let f = frame-facts t limits (frame (else1-from-known-told2 c)) in
     let b = found-below (λ k. not (edgeFine t k)) (edges t) _ (sym (c .before .before .before .bad-edge .ensures) ∙ ap found (c .before .j .given .1)) in
     omega arith
 
 returns-3 : tie.Need-returns-3
-returns-3 c = row-3 _ (frame (c .before .before .before .before .before .before .before .before)) (nodes-pass (c .before .before .before .before)) _ (sym (c .before .before .before .bad-edge .ensures) ∙ ap found (c .before .j .given .1))
+returns-3 c = row-3 _ (frame (else1-from-known-told2 c)) (nodes-pass (c .before .before .before .before)) _ (sym (c .before .before .before .bad-edge .ensures) ∙ ap found (c .before .j .given .1))
 
 enum-told-2 : tie.Need-enum-told-2
 enum-told-2 c = search needs
@@ -91,22 +134,22 @@ enum-known-i-2 c = search needs
 
 cast-t13 : tie.Need-cast-t13
 cast-t13 c =
-    let t = c .before .before .before .before .before .before .before .before .before .before .before .before .before .before .args .s .now in
-    let f = frame-facts t limits (frame (c .before .before .before .before .before .before .before .before .before .before .before)) in
+    let t = start-from-known-told3 c .args .s .now in
+    let f = frame-facts t limits (frame (else1-from-known-told3 c)) in
     let b = found-below (λ k. not (shapeFine t limits k)) (nodes t) _ (sym (c .before .before .before .bad-shape .ensures) ∙ ap found (c .before .i2 .given .1)) in
     omega arith
 
 returns-4 : tie.Need-returns-4
-returns-4 c = row-4 _ (frame (c .before .before .before .before .before .before .before .before .before .before .before)) (nodes-pass (c .before .before .before .before .before .before .before)) (edges-pass (c .before .before .before .before)) _ (sym (c .before .before .before .bad-shape .ensures) ∙ ap found (c .before .i2 .given .1))
+returns-4 c = row-4 _ (frame (else1-from-known-told3 c)) (nodes-pass (c .before .before .before .before .before .before .before)) (edges-pass (c .before .before .before .before)) _ (sym (c .before .before .before .bad-shape .ensures) ∙ ap found (c .before .i2 .given .1))
 
 enum-told-3 : tie.Need-enum-told-3
 enum-told-3 c = search needs
 
 returns-5 : tie.Need-returns-5
 returns-5 c =
-    let n = c .before .before .before .before .before .before .before .before .before .counts .ensures in
+    let n = counts-from-enum-told3 c .counts .ensures in
     ap good (counted _ _ _ (n .0) (n .1))
-    ∙ no-row _ (frame (c .before .before .before .before .before .before .before .before .before .before)) (nodes-pass (c .before .before .before .before .before .before)) (edges-pass (c .before .before .before)) (sym (c .before .before .bad-shape .ensures) ∙ ap found (c .enum-told3 .given .1))
+    ∙ no-row _ (frame (else1-from-enum-told3 c)) (nodes-pass (c .before .before .before .before .before .before)) (edges-pass (c .before .before .before)) (sym (c .before .before .bad-shape .ensures) ∙ ap found (c .enum-told3 .given .1))
 
 pub read-spec : {M : Type 1} → statement M
 read-spec =

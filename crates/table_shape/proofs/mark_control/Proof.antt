@@ -5,11 +5,12 @@ use Prim.Native.Nat.{_≤_, _-_}
 use native.Mathlib.Omega.{arith}
 use lib.ListN.{length}
 use borrow.Author.Needs.{needs}
-use Rattle.paper.specs.Table.{nodes, kind, isControlNode, chain}
+use Rattle.paper.specs.Table.{nodes, kind, isControlNode}
 use Rattle.paper.proofs.Counts.{any-below-self}
 use Rattle.table.specs.Reading.{Blank}
 use Rattle.words.specs.Marks.{MarksOf, placed}
 use Rattle.words.proofs.Marks.{pass-more, pass-done}
+use Rattle.table_shape.proofs.Chains.{marks-ranked}
 use Rattle.table_shape.proofs.mark_control.Statement.{statement}
 use Rattle.table_shape.proofs.mark_control.Tie as tie
 
@@ -18,6 +19,13 @@ Inv-loop s table marks₀ n i₀ marks i = (i ≤ n) × (n ≡ nodes s) × (leng
 
 abbrev μ-loop : tie.MeasureT-loop
 μ-loop s table marks₀ n i₀ marks i = n - i
+
+-- ---- places, each from a later one
+abbrev start-from-loop : tie.At-loop Inv-loop μ-loop → tie.Start Inv-loop μ-loop
+start-from-loop c = c .before .before .before
+
+abbrev start-from-slice-known2 : tie.After-slice-known2 Inv-loop μ-loop → tie.Start Inv-loop μ-loop
+start-from-slice-known2 c = start-from-loop (c .before .before .before .before .before .before .before)
 
 loop-holds : tie.Need-loop-holds Inv-loop μ-loop
 loop-holds c = (search needs, search needs, refl, λ z. record { tell = λ a l. z a })
@@ -40,7 +48,7 @@ loop-less c = search needs
 loop-again : tie.Need-loop-again Inv-loop μ-loop
 loop-again c =
     let l = c .before .before .before .before .before .before .before .loop in
-    let t = c .before .before .before .before .before .before .before .before .before .before .args .s .now in (
+    let t = start-from-slice-known2 c .args .s .now in (
       search needs,
       search needs,
       search needs,
@@ -52,11 +60,12 @@ same-length : tie.Need-same-length Inv-loop μ-loop
 same-length c = search needs
 
 returns : tie.Need-returns Inv-loop μ-loop
-unfolding chain
 returns c = λ z.
     let t = c .before .before .before .before .args .s .now in
     let o = c .before .loop in
-    pass-done (λ a. false) (λ x. isControlNode (kind t x)) (λ x. x) (o .i) (nodes t) (chain t 1) (o .inv .3 z) (omega arith) (any-below-self (λ x. isControlNode (kind t x)) (nodes t))
+    marks-ranked t (o .marks)
+    (pass-done (λ a. false) (λ x. isControlNode (kind t x)) (λ x. x) (o .i) (nodes t) (λ x. isControlNode (kind t x)) (o .inv .3 z) (omega arith)
+    (any-below-self (λ x. isControlNode (kind t x)) (nodes t)))
 
 pub mark-control-spec : {M : Type 1} → statement M
 mark-control-spec =

@@ -21,6 +21,13 @@ Inv-loop s table fed₀ n i₀ fed i = (i ≤ n) × (n ≡ nodes s) × (length f
 abbrev μ-loop : tie.MeasureT-loop
 μ-loop s table fed₀ n i₀ fed i = n - i
 
+-- ---- places, each from a later one
+abbrev start-from-loop : tie.At-loop Inv-loop μ-loop → tie.Start Inv-loop μ-loop
+start-from-loop c = c .before .before .before
+
+abbrev start-from-slice-known2 : tie.After-slice-known2 Inv-loop μ-loop → tie.Start Inv-loop μ-loop
+start-from-slice-known2 c = start-from-loop (c .before .before .before .before .before .before .before)
+
 loop-holds : tie.Need-loop-holds Inv-loop μ-loop
 loop-holds c = (search needs, search needs, refl, λ z. record { tell = λ a l. z a })
 
@@ -41,7 +48,7 @@ loop-less c = search needs
 
 loop-again : tie.Need-loop-again Inv-loop μ-loop
 loop-again c =
-    let p = c .before .before .before .before .before .before .before .before .before .before in
+    let p = start-from-slice-known2 c in
     let l = c .before .before .before .before .before .before .before .loop in
     let t = p .args .s .now in (
       search needs,

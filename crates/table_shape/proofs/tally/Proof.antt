@@ -18,6 +18,37 @@ Inv-loop s table cells₀ e j₀ cells j = (j ≤ e) × (e ≡ edges s) × (leng
 abbrev μ-loop : tie.MeasureT-loop
 μ-loop s table cells₀ e j₀ cells j = e - j
 
+-- ---- places, each from a later one
+abbrev start-from-edge-kind : tie.After-edge-kind Inv-loop μ-loop → tie.Start Inv-loop μ-loop
+start-from-edge-kind c = c .before .before .before .before .before
+
+abbrev start-from-source : tie.After-source Inv-loop μ-loop → tie.Start Inv-loop μ-loop
+start-from-source c = start-from-edge-kind (c .before .before .before .before .before .before .before)
+
+abbrev loop-from-edge-kind : tie.After-edge-kind Inv-loop μ-loop → tie.At-loop Inv-loop μ-loop
+loop-from-edge-kind c = c .before .before
+
+abbrev loop-from-source : tie.After-source Inv-loop μ-loop → tie.At-loop Inv-loop μ-loop
+loop-from-source c = loop-from-edge-kind (c .before .before .before .before .before .before .before)
+
+abbrev start-from-slice-known3 : tie.After-slice-known3 Inv-loop μ-loop → tie.Start Inv-loop μ-loop
+start-from-slice-known3 c = start-from-source (c .before .before .before)
+
+abbrev loop-from-slice-known3 : tie.After-slice-known3 Inv-loop μ-loop → tie.At-loop Inv-loop μ-loop
+loop-from-slice-known3 c = loop-from-source (c .before .before .before)
+
+abbrev target-from-bump : tie.After-bump Inv-loop μ-loop → tie.After-target Inv-loop μ-loop
+target-from-bump c = c .before
+
+abbrev target-from-slice-known3 : tie.After-slice-known3 Inv-loop μ-loop → tie.After-target Inv-loop μ-loop
+target-from-slice-known3 c = target-from-bump (c .before .before .before .before .before .before .before)
+
+abbrev edge-kind-from-bump : tie.After-bump Inv-loop μ-loop → tie.After-edge-kind Inv-loop μ-loop
+edge-kind-from-bump c = c .before .before .before
+
+abbrev edge-kind-from-slice-known3 : tie.After-slice-known3 Inv-loop μ-loop → tie.After-edge-kind Inv-loop μ-loop
+edge-kind-from-slice-known3 c = edge-kind-from-bump (c .before .before .before .before .before .before .before)
+
 loop-holds : tie.Need-loop-holds Inv-loop μ-loop
 loop-holds c = (search needs, search needs, refl, c .before .before .pre .3)
 
@@ -56,8 +87,8 @@ add-bump-3 c = search needs
 
 bump-requires-2 : tie.Need-bump-requires-2 Inv-loop μ-loop
 bump-requires-2 c κs =
-    let p = c .before .before .before .before .before .before .before .before .before .before .before .before in
-    let l = c .before .before .before .before .before .before .before .before .before .loop in
+    let p = start-from-source c in
+    let l = loop-from-source c .loop in
     let t = p .args .s .now in
     let f = edge-facts t (l .j) (p .pre .1 (l .j) (omega arith)) in
     let a = 4 * c .before .before .before .before .before .target .result + c .before .before .before .before .before .before .before .edge-kind .result in
@@ -75,12 +106,12 @@ loop-less c = search needs
 
 loop-again : tie.Need-loop-again Inv-loop μ-loop
 loop-again c =
-    let p = c .before .before .before .before .before .before .before .before .before .before .before .before .before .before .before in
-    let l = c .before .before .before .before .before .before .before .before .before .before .before .before .loop in
+    let p = start-from-slice-known3 c in
+    let l = loop-from-slice-known3 c .loop in
     let t = p .args .s .now in
     let f = edge-facts t (l .j) (p .pre .1 (l .j) (omega arith)) in
-    let a = 4 * c .before .before .before .before .before .before .before .before .target .result + c .before .before .before .before .before .before .before .before .before .before .edge-kind .result in
-    let b = 4 * c .before .before .before .source .result + 2 + c .before .before .before .before .before .before .before .before .before .before .edge-kind .result in (
+    let a = 4 * target-from-slice-known3 c .target .result + edge-kind-from-slice-known3 c .edge-kind .result in
+    let b = 4 * c .before .before .before .source .result + 2 + edge-kind-from-slice-known3 c .edge-kind .result in (
       search needs,
       search needs,
       search needs,

@@ -5,6 +5,13 @@ use borrow.Author.Needs.{needs}
 use Rattle.vectors.proofs.line.Statement.{statement}
 use Rattle.vectors.proofs.line.Tie as tie
 
+-- ---- places, each from a later one
+abbrev start-from-refusal-in : tie.After-refusal-in → tie.Start
+start-from-refusal-in c = c .before .before
+
+abbrev start-from-hex-arg : tie.After-hex-arg → tie.Start
+start-from-hex-arg c = start-from-refusal-in (c .before .before .before .before .before .before .before)
+
 refusal-in-requires : tie.Need-refusal-in-requires
 refusal-in-requires c κs = search needs
 
@@ -30,7 +37,7 @@ returns : tie.Need-returns
 returns c = search needs
 
 slice-aggregate-hex : tie.Need-slice-aggregate-hex
-slice-aggregate-hex c = omega (arith, length-take (c .before .before .before .length-in .result) (c .before .before .before .before .before .before .before .before .before .args .out .now))
+slice-aggregate-hex c = omega (arith, length-take (c .before .before .before .length-in .result) (start-from-hex-arg c .args .out .now))
 
 hex-requires : tie.Need-hex-requires
 hex-requires c κs = search needs

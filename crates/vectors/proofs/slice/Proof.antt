@@ -6,6 +6,13 @@ use borrow.Author.Needs.{needs}
 use Rattle.vectors.proofs.slice.Statement.{statement}
 use Rattle.vectors.proofs.slice.Tie as tie
 
+-- ---- places, each from a later one
+abbrev start-from-slice-known : tie.After-slice-known → tie.Start
+start-from-slice-known c = c .before
+
+abbrev start-from-read-full-arg : tie.After-read-full-arg → tie.Start
+start-from-read-full-arg c = start-from-slice-known (c .before .before .before .before .before .before .before)
+
 slice-aggregate-read-full : tie.Need-slice-aggregate-read-full
 slice-aggregate-read-full c = search needs
 
@@ -37,7 +44,7 @@ slice-relend-prefix-read-full : tie.Need-slice-relend-prefix-read-full
 slice-relend-prefix-read-full c = search needs
 
 slice-aggregate-read-full-2 : tie.Need-slice-aggregate-read-full-2
-slice-aggregate-read-full-2 c = omega (arith, length-take (c .before .before .before .wide .result * 256 + c .before .before .wide2 .result) (c .before .before .before .before .before .before .before .before .args .space .now))
+slice-aggregate-read-full-2 c = omega (arith, length-take (c .before .before .before .wide .result * 256 + c .before .before .wide2 .result) (start-from-read-full-arg c .args .space .now))
 
 read-full-requires-2 : tie.Need-read-full-requires-2
 read-full-requires-2 c κs = search needs

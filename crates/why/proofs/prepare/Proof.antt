@@ -17,6 +17,25 @@ use Rattle.why.proofs.own_ends.Reads as own-ends-reads
 use Rattle.why.proofs.own_of.Reads as own-of-reads
 use Rattle.wire.proofs.wide.Reads as wide-reads
 
+-- ---- places, each from a later one
+abbrev start-from-own-ends : tie.After-own-ends → tie.Start
+start-from-own-ends c = c .before .before .before .before .before .before .before
+
+abbrev start-from-wanted : tie.After-wanted → tie.Start
+start-from-wanted c = start-from-own-ends (c .before .before .before .before .before .before .before)
+
+abbrev own-of-from-own-ends : tie.After-own-ends → tie.After-own-of
+own-of-from-own-ends c = c .before
+
+abbrev own-of-from-wanted : tie.After-wanted → tie.After-own-of
+own-of-from-wanted c = own-of-from-own-ends (c .before .before .before .before .before .before .before)
+
+abbrev wide-from-own-ends : tie.After-own-ends → tie.After-wide
+wide-from-own-ends c = c .before .before
+
+abbrev wide-from-wanted : tie.After-wanted → tie.After-wide
+wide-from-wanted c = wide-from-own-ends (c .before .before .before .before .before .before .before)
+
 -- src/lib.rt:138:47
 wide-requires : tie.Need-wide-requires
 wide-requires c κs = search needs
@@ -52,10 +71,10 @@ same-length c = search needs
 -- src/lib.rt:123:1
 returns : tie.Need-returns
 returns c =
-    let s = c .before .before .before .before .before .before .before .before .before .before .before .before .before .before in
+    let s = start-from-wanted c in
     let a = s .args in
     let f = c .before .before .before .before .before .fill in
-    let e : c .before .before .before .before .before .before .before .before .own-of .result ≡ ownOf (a .t .now) (a .node) = c .before .before .before .before .before .before .before .before .own-of .ensures ∙ ap (ownOf (a .t .now)) (c .before .before .before .before .before .before .before .before .before .wide .ensures .0) in
+    let e : own-of-from-wanted c .own-of .result ≡ ownOf (a .t .now) (a .node) = own-of-from-wanted c .own-of .ensures ∙ ap (ownOf (a .t .now)) (wide-from-wanted c .wide .ensures .0) in
     let w : OwnEnds (a .ends) (ownOf (a .t .now) (a .node)) (c .before .before .before .before .before .before .before .own-ends .result) = rw (sym e) (c .before .before .before .before .before .before .before .own-ends .ensures) in (
       f .ensures .0,
       λ few d st. level-sought st (a .node) (omega (arith, read-spans _ (s .pre .0) .nodes-read, s .pre .4)) _ w (f .last .0) (f .result) (a .k) (c .wanted .result) few

@@ -2,9 +2,15 @@
 use borrow.Author.Tests.{not-true, not-false}
 use Rattle.paper.proofs.Bytes.{Bytes}
 use Rattle.paper.specs.Offers.{terms, goesOver}
+use Rattle.marking_held.specs.MarkingHeld.{LiveMarking}
 use Rattle.marking_held.proofs.HeldLaws.{live-is-good}
-use Rattle.board.specs.Reading.{seats}
-use Rattle.board.proofs.Ladder.{board-8, board-read, refused-board, fine-ties}
+use Rattle.offers.specs.Rows.{rowsIn}
+use Rattle.offers_all.specs.Stages.{Result}
+use Rattle.board.specs.Reading.{endsLent}
+use Rattle.board.proofs.Ladder.{board-8, board-arranged, fine-ties}
+use Rattle.terms.specs.Terms.{termsFine}
+use Rattle.paper.specs.Answers.{good}
+use mathlib.Core.Path.{_≡_}
 use borrow.Author.Needs.{needs}
 use Rattle.board.proofs.reading.lay.Statement.{statement}
 use Rattle.board.proofs.reading.lay.Tie as tie
@@ -12,91 +18,86 @@ use Rattle.board.proofs.reading.lay.Reads as reads
 use Rattle.board.proofs.reading.lay.Lts as lts
 use Rattle.board.proofs.reading.arranged.Reads as arranged-reads
 use Rattle.board.proofs.reading.offered.Reads as offered-reads
-use Rattle.board.proofs.reading.refused.Reads as refused-reads
 
--- src/reading.rt:133:55
-slice-aggregate-offered : tie.Need-slice-aggregate-offered
-slice-aggregate-offered c = search needs
+-- ---- places, each from a later one
+abbrev start-from-offered : tie.After-offered → tie.Start
+start-from-offered c = c .before .before .before .before .before .before .before .before .before .before .before
 
--- src/reading.rt:133:9
+abbrev offered-from-arranged : tie.After-arranged → tie.After-offered
+offered-from-arranged c = c .before .before .before .before .before .before .before .before .before .before
+
+-- ---- the offers, of a live marking under fine terms
+built : (c : tie.After-offered) → let a = start-from-offered c .args in (l : LiveMarking (a .t .now) (a .b .now) (a .held))
+    → termsFine (a .t .now) (a .g .now) (a .bounds .now) ≡ good tt
+    → Result (a .t .now) (l .current) (goesOver (terms (a .g .now) (a .bounds .now))) (rowsIn (c .offered .last .1 .1 .1 .1 .1 .1 .0) (c .offered .result .count))
+    (c .offered .result .ok) (c .offered .result .from) (c .offered .result .to)
+built c l f =
+    let a = start-from-offered c .args in
+    let u : Bytes (a .b .now) = λ i. (c .before .before .before .before .before .before .before .before .before .shared-slice-known2 .given i) .fits in
+    c .offered .ensures .1 (l .current) (goesOver (terms (a .g .now) (a .bounds .now))) (fine-ties (a .t .now) (a .g .now) (a .bounds .now) f)
+    (live-is-good (a .t .now) (a .b .now) (a .held) l u) (l .held)
+
+abbrev arranged-from-ends : tie.After-ends → tie.After-arranged
+arranged-from-ends c = c .before
+
+abbrev arranged-from-slice-known10 : tie.After-slice-known10 → tie.After-arranged
+arranged-from-slice-known10 c = arranged-from-ends (c .before .before .before .before .before .before .before)
+
 offered-requires : tie.Need-offered-requires
 offered-requires c κs = search needs
 
--- src/reading.rt:135:9
-refused-requires : tie.Need-refused-requires
-refused-requires c κs = search needs
-
--- src/reading.rt:135:9
-returns : tie.Need-returns
-returns c =
-    let s = c .before .before .before .before .before .before .before .before .before .before .before .before .before .before in
-    let a = s .args in
-    let t = a .t .now in
-    let b = a .b .now in
-    let u : Bytes b = λ i. (c .before .before .before .before .before .before .before .before .before .before .before .before .shared-slice-known2 .given i) .fits in (
-      c .refused .ensures .0,
-      λ l f. refused-board t b (terms (a .g .now) (a .bounds .now)) (c .refused .result .offers) (c .refused .result .held)
-          (seats (a .ends .now) (a .order .now) (a .lens .now) (a .cells .now)) (c .refused .result .answer) 8 0 (c .refused .ensures .1)
-          (board-8 t b (a .g .now) (a .bounds .now) (s .pre .0) l f
-          (c .before .before .before .before .offered .ensures .1 (l .current) (goesOver (terms (a .g .now) (a .bounds .now))) (fine-ties t (a .g .now) (a .bounds .now) f) (live-is-good t b (a .held) l u) (l .held)
-          .bad (not-true _ (c .before .if1 .taken)))),
-    )
-
--- src/reading.rt:137:44
-slice-aggregate-arranged : tie.Need-slice-aggregate-arranged
-slice-aggregate-arranged c = search needs
-
--- src/reading.rt:137:9
-arranged-requires : tie.Need-arranged-requires
-arranged-requires c κs = search needs
-
--- src/reading.rt:117:1
 same-length : tie.Need-same-length
 same-length c = search needs
 
--- src/reading.rt:117:1
+returns : tie.Need-returns
+returns c =
+    let v = c .before .before .before .before in
+    let s = start-from-offered v in
+    let a = s .args in
+    λ l f. board-8 (a .t .now) (a .b .now) (a .g .now) (a .bounds .now) (s .pre .0) l f (built v l f .bad (not-true _ (c .if1 .taken)))
+
+arranged-requires : tie.Need-arranged-requires
+arranged-requires c κs = search needs
+
 same-length-2 : tie.Need-same-length-2
 same-length-2 c = search needs
 
--- src/reading.rt:117:1
 same-length-3 : tie.Need-same-length-3
 same-length-3 c = search needs
 
--- src/reading.rt:117:1
 same-length-4 : tie.Need-same-length-4
 same-length-4 c = search needs
 
--- src/reading.rt:117:1
+same-length-5 : tie.Need-same-length-5
+same-length-5 c = search needs
+
+same-length-6 : tie.Need-same-length-6
+same-length-6 c = search needs
+
 returns-2 : tie.Need-returns-2
 returns-2 c =
-    let s = c .before .before .before .before .before .before .before .before .before .before .before .before .before .before .before .before .before .before .before .before .before .before .before .before .before .before .before .before in
+    let k = arranged-from-slice-known10 c in
+    let v = offered-from-arranged k in
+    let s = start-from-offered v in
     let a = s .args in
-    let t = a .t .now in
-    let b = a .b .now in
-    let u : Bytes b = λ i. (c .before .before .before .before .before .before .before .before .before .before .before .before .before .before .before .before .before .before .before .before .before .before .before .before .before .before .shared-slice-known2 .given i) .fits in
-    let o = c .before .before .before .before .before .before .before .before .before .before .before .before .before .before .before .before .before .before .offered in
-    let k = c .before .before .before .before .before .before .before .before .before .arranged in (
-      s .pre .1,
-      λ l f.
-          let w = o .ensures .1 (l .current) (goesOver (terms (a .g .now) (a .bounds .now))) (fine-ties t (a .g .now) (a .bounds .now) f) (live-is-good t b (a .held) l u) (l .held)
-          .good (not-false _ (c .before .before .before .before .before .before .before .before .before .before .before .before .before .before .before .if1 .left)) in
-          board-read t b (a .g .now) (a .bounds .now) (s .pre .0) l f (o .result .offers) (o .last .1 .1 .1 .1 .1 .1 .0) (o .ensures .0 .1)
-          (seats (k .last .1 .1 .1 .1 .0) (k .last .1 .1 .1 .1 .1 .0) (k .last .1 .1 .1 .1 .1 .1 .0) (k .last .1 .1 .1 .1 .1 .1 .1 .0)) (k .result) (o .result .from) (o .result .to) w
-          (k .ensures (l .current) (goesOver (terms (a .g .now) (a .bounds .now))) w),
-    )
+    let e = k .arranged .last .1 .1 .1 .1 .1 in
+    λ l f.
+    let w = built v l f .good (not-false _ (k .before .before .before .before .before .before .if1 .left)) in
+    board-arranged (a .t .now) (a .b .now) (a .g .now) (a .bounds .now) (s .pre .0) l f (a .show) (v .offered .last .1 .1 .1 .1 .1 .1 .0) (v .offered .result .count)
+    (endsLent (e .0) (e .1 .0) (e .1 .1 .0) (e .1 .1 .1 .0)) (v .offered .result .from) (v .offered .result .to) w (k .arranged .result)
+    (k .arranged .ensures (l .current) (goesOver (terms (a .g .now) (a .bounds .now))) w)
 
 pub lay-spec : {M : Type 1} → statement M
 lay-spec =
     tie.close
     (tie.spec
-    slice-aggregate-offered
     offered-requires
-    refused-requires
-    returns
-    slice-aggregate-arranged
-    arranged-requires
     same-length
+    returns
+    arranged-requires
     same-length-2
     same-length-3
     same-length-4
+    same-length-5
+    same-length-6
     returns-2)

@@ -12,27 +12,21 @@ use Rattle.board.proofs.reading.offered.Lts as lts
 use Rattle.board.proofs.starts.first_offers.Reads as first-offers-reads
 use Rattle.offers_all.proofs.build.Reads as build-reads
 
--- src/reading.rt:79:37
 slice-aggregate-first-offers : tie.Need-slice-aggregate-first-offers
 slice-aggregate-first-offers c = search needs
 
--- src/reading.rt:79:49
 slice-aggregate-first-offers-2 : tie.Need-slice-aggregate-first-offers-2
 slice-aggregate-first-offers-2 c = search needs
 
--- src/reading.rt:79:5
 first-offers-requires : tie.Need-first-offers-requires
 first-offers-requires c κs = let p = c .before .before .before .before .before .before .before .pre in let e = most-edges _ (p .0) in (p .0, p .1, e, e)
 
--- src/reading.rt:80:44
 slice-aggregate-build : tie.Need-slice-aggregate-build
 slice-aggregate-build c = search needs
 
--- src/reading.rt:80:52
 slice-aggregate-build-2 : tie.Need-slice-aggregate-build-2
 slice-aggregate-build-2 c = search needs
 
--- src/reading.rt:80:5
 build-requires : tie.Need-build-requires
 build-requires c κs =
     let s = c .before .before .before .before .before .before .before .before .before .before .before .before .before in
@@ -42,11 +36,9 @@ build-requires c κs =
     let k = c .before .before .before .before .before .first-offers .kept in
     (record { framed = good-framed t (s .pre .0); guards = s .pre .2; codes = omega (arith, e, r .edges-read, k); values = omega (arith, e, r .edges-read, k) }, s .pre .3)
 
--- src/reading.rt:65:1
 same-length : tie.Need-same-length
 same-length c = search needs
 
--- src/reading.rt:65:1
 returns : tie.Need-returns
 returns c =
     let s = c .before .before .before .before .before .before .before .before .before .before .before .before .before .before .before .before in
@@ -55,7 +47,7 @@ returns c =
     let o = c .before .before .build .result in
     let r = c .before .before .build .ensures in
     let f = c .before .before .before .before .before .before .before .before .first-offers in (
-      (ranges-more (o .from) (o .to) (o .offers .count) 64 (r .0 .0) (r .0 .1 .0), r .0 .1 .1),
+      (ranges-more (o .from) (o .to) (o .count) _ (r .0 .0) (r .0 .1), r .0 .2, r .0 .3),
       λ m goes ties ok x. r .1 m goes (begun-input t (a .b .now) (s .pre .0) (a .held) (f .last .1 .1 .1 .1 .0) (f .last .1 .1 .1 .1 .1 .0) m ok x
           (rw (read-spans t (s .pre .0) .edges-read) at (f .ensures)) goes (a .g .now) (a .bounds .now) ties),
     )

@@ -25,6 +25,25 @@ Inv-loop t table b codes₀ values₀ from kept tokens n e₀ codes values e = (
 abbrev μ-loop : tie.MeasureT-loop
 μ-loop t table b codes₀ values₀ from kept tokens n e₀ codes values e = n - e
 
+-- ---- places, each from a later one
+abbrev start-from-slice-known2 : tie.After-slice-known2 Inv-loop μ-loop → tie.Start Inv-loop μ-loop
+start-from-slice-known2 c = c .before .before .before .before
+
+abbrev start-from-tokens2 : tie.After-tokens2 Inv-loop μ-loop → tie.Start Inv-loop μ-loop
+start-from-tokens2 c = start-from-slice-known2 (c .before .before .before .before .before .before .before)
+
+abbrev start-from-start-code : tie.After-start-code Inv-loop μ-loop → tie.Start Inv-loop μ-loop
+start-from-start-code c = start-from-tokens2 (c .before)
+
+abbrev start-from-source : tie.After-source Inv-loop μ-loop → tie.Start Inv-loop μ-loop
+start-from-source c = start-from-tokens2 (c .before .before)
+
+abbrev start-from-oldest : tie.After-oldest Inv-loop μ-loop → tie.Start Inv-loop μ-loop
+start-from-oldest c = start-from-tokens2 (c .before .before .before .before)
+
+abbrev start-from-loop : tie.After-loop Inv-loop μ-loop → tie.Start Inv-loop μ-loop
+start-from-loop c = start-from-slice-known2 (c .before .before .before .before .before)
+
 -- src/starts.rt:66:5
 loop-holds : tie.Need-loop-holds Inv-loop μ-loop
 loop-holds c = search needs
@@ -40,7 +59,7 @@ slice-aggregate-start-code-2 c = search needs
 -- src/starts.rt:67:20
 start-code-requires : tie.Need-start-code-requires Inv-loop μ-loop
 start-code-requires c κs =
-    let s = c .before .before .before .before .before .before .before .before .before .before .before in
+    let s = start-from-tokens2 c in
     (s .pre .0, omega (arith, c .before .before .loop-test .taken), omega (arith, most-nodes _ (s .pre .0), s .pre .1 .kept-long), omega (arith, most-edges _ (s .pre .0), s .pre .1 .tokens-long))
 
 -- src/starts.rt:67:9
@@ -49,7 +68,7 @@ slice-write-codes c = search needs
 
 -- src/starts.rt:68:49
 source-requires : tie.Need-source-requires Inv-loop μ-loop
-source-requires c κs = (read-spans _ (c .before .before .before .before .before .before .before .before .before .before .before .before .pre .0), omega (arith, c .before .before .before .loop-test .taken))
+source-requires c κs = (read-spans _ (start-from-start-code c .pre .0), omega (arith, c .before .before .before .loop-test .taken))
 
 -- src/starts.rt:68:44
 mul-wide16 : tie.Need-mul-wide16 Inv-loop μ-loop
@@ -58,7 +77,7 @@ mul-wide16 c = search needs
 -- src/starts.rt:68:44
 array-read-wide16 : tie.Need-array-read-wide16 Inv-loop μ-loop
 array-read-wide16 c =
-    let s = c .before .before .before .before .before .before .before .before .before .before .before .before .before in
+    let s = start-from-source c in
     omega (arith, source-node (s .args .t .now) (s .pre .0) (c .before .before .before .before .before .loop .e) (omega (arith, c .before .before .before .before .loop-test .taken)), c .source .ensures, most-nodes _ (s .pre .0))
 
 -- src/starts.rt:68:31
@@ -88,7 +107,7 @@ loop-less c = search needs
 -- src/starts.rt:66:5
 loop-again : tie.Need-loop-again Inv-loop μ-loop
 loop-again c =
-    let h = c .before .before .before .before .before .before .before .before .before .before .before .before .before .before .before .args in
+    let h = start-from-oldest c .args in
     let s = c .before .before .before .before .before .before .before .loop in
     let e : c .before .wide16 .result ≡ at (h .held .from) (source (h .t .now) (s .e)) = c .before .wide16 .ensures ∙ ap (at (h .held .from)) (c .before .before .source .ensures .0) in (
       omega (arith, c .before .before .before .before .before .before .loop-test .taken),
@@ -108,7 +127,7 @@ same-length-2 c = c .before .loop .inv .2
 
 -- src/starts.rt:50:1
 returns : tie.Need-returns Inv-loop μ-loop
-returns c = let a = c .before .before .before .before .before .before .before .before .before .args in let s = c .before .loop in let e : s .e ≡ a .table .edges = omega (arith, s .inv .0, c .loop-test .left) in rw e at (s .inv .3)
+returns c = let a = start-from-loop c .args in let s = c .before .loop in let e : s .e ≡ a .table .edges = omega (arith, s .inv .0, c .loop-test .left) in rw e at (s .inv .3)
 
 pub first-offers-spec : {M : Type 1} → statement M
 first-offers-spec =

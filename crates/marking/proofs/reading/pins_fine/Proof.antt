@@ -2,12 +2,13 @@
 use Prim.Native.Nat.{ℕ, _≤_, _<_, _-_}
 use mathlib.Core.Path.{_≡_, sym, _∙_}
 use mathlib.Core.Bool.{true}
+use mathlib.Core.List.{List}
 use native.Mathlib.Omega.{arith}
 use borrow.Author.Count.{below-more}
 use borrow.Author.Tests.{not-true, not-false}
 use Rattle.paper.specs.Table.{nodes}
 use Rattle.paper.specs.Marking.{Marking, pinFine}
-use Rattle.marking.specs.Reading.{NodesNoted}
+use Rattle.marking.specs.Reading.{NodesRead}
 use Rattle.paper.proofs.Lists.{below-all, all-fails}
 use Rattle.table.proofs.Reading.{read-spans}
 use borrow.Author.Needs.{needs}
@@ -15,21 +16,22 @@ use Rattle.marking.proofs.reading.pins_fine.Statement.{statement}
 use Rattle.marking.proofs.reading.pins_fine.Tie as tie
 
 abbrev Inv-loop : tie.InvT-loop
-Inv-loop t table b places n p₀ p = (p ≤ n) × ((m : Marking) → NodesNoted t m b places (nodes t) → (k : ℕ) → k < p → pinFine t m k ≡ true)
+Inv-loop t table kept n p₀ p = (p ≤ n) × ((m : Marking) (b from : List ℕ) → NodesRead t m b from kept (nodes t) → (k : ℕ) → k < p → pinFine t m k ≡ true)
 
 abbrev μ-loop : tie.MeasureT-loop
-μ-loop t table b places n p₀ p = n - p
+μ-loop t table kept n p₀ p = n - p
 
 loop-holds : tie.Need-loop-holds Inv-loop μ-loop
-loop-holds c = (omega arith, λ m h k l. absurd (omega arith))
+loop-holds c = (omega arith, λ m b f h k l. absurd (omega arith))
 
 pin-fine-requires : tie.Need-pin-fine-requires Inv-loop μ-loop
-pin-fine-requires c κs = let h = c .before .before .before .before .before .pre in (h .0, omega arith, h .1)
+pin-fine-requires c κs = let h = c .before .before .before .before .pre in (h .0, omega arith, h .1)
 
 returns : tie.Need-returns Inv-loop μ-loop
-returns c = let a = c .before .before .before .before .before .before .before .args in
-    let f = read-spans (a .t .now) (c .before .before .before .before .before .before .before .pre .0) in
-    λ m h. sym (all-fails (pinFine (a .t .now) m) (nodes (a .t .now)) (c .before .before .before .loop .p) (omega arith) (sym (c .before .pin-fine .ensures m h) ∙ not-true _ (c .if1 .taken)))
+returns c = let s = c .before .before .before .before .before .before in
+    let t = s .args .t .now in
+    let n = read-spans t (s .pre .0) in
+    λ m b f h. sym (all-fails (pinFine t m) (nodes t) (c .before .before .before .loop .p) (omega arith) (sym (c .before .pin-fine .ensures m b f h) ∙ not-true _ (c .if1 .taken)))
 
 add-p : tie.Need-add-p Inv-loop μ-loop
 add-p c = search needs
@@ -38,12 +40,13 @@ loop-less : tie.Need-loop-less Inv-loop μ-loop
 loop-less c = search needs
 
 loop-again : tie.Need-loop-again Inv-loop μ-loop
-loop-again c = (omega arith, λ m h. below-more _ _ (c .before .before .before .loop .inv .1 m h) (sym (c .before .pin-fine .ensures m h) ∙ not-false _ (c .if1 .left)))
+loop-again c = (omega arith, λ m b f h. below-more _ _ (c .before .before .before .loop .inv .1 m b f h) (sym (c .before .pin-fine .ensures m b f h) ∙ not-false _ (c .if1 .left)))
 
 returns-2 : tie.Need-returns-2 Inv-loop μ-loop
-returns-2 c = let a = c .before .before .before .before .before .args in
-    let f = read-spans (a .t .now) (c .before .before .before .before .before .pre .0) in
-    λ m h. sym (below-all (pinFine (a .t .now) m) (nodes (a .t .now)) (λ k l. c .before .loop .inv .1 m h k (omega arith)))
+returns-2 c = let s = c .before .before .before .before in
+    let t = s .args .t .now in
+    let n = read-spans t (s .pre .0) in
+    λ m b f h. sym (below-all (pinFine t m) (nodes t) (λ k l. c .before .loop .inv .1 m b f h k (omega arith)))
 
 pub pins-fine-spec : {M : Type 1} → statement M
 pins-fine-spec =

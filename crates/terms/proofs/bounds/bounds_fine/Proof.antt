@@ -17,6 +17,19 @@ Inv-loop t table x n k₀ k = (k ≤ n) × ((j : ℕ) → j < k → boundFine x 
 abbrev μ-loop : tie.MeasureT-loop
 μ-loop t table x n k₀ k = n - k
 
+-- ---- places, each from a later one
+abbrev start-from-shared-slice-known : tie.After-shared-slice-known Inv-loop μ-loop → tie.Start Inv-loop μ-loop
+start-from-shared-slice-known c = c .before
+
+abbrev start-from-in-loop : tie.In-loop Inv-loop μ-loop → tie.Start Inv-loop μ-loop
+start-from-in-loop c = start-from-shared-slice-known (c .before .before .before .before .before .before .before)
+
+abbrev start-from-then2 : tie.Then2 Inv-loop μ-loop → tie.Start Inv-loop μ-loop
+start-from-then2 c = start-from-in-loop (c .before .before)
+
+abbrev start-from-loop : tie.After-loop Inv-loop μ-loop → tie.Start Inv-loop μ-loop
+start-from-loop c = start-from-shared-slice-known (c .before .before .before .before .before .before .before)
+
 frame-fine-requires : tie.Need-frame-fine-requires Inv-loop μ-loop
 frame-fine-requires c κs = tt
 
@@ -34,15 +47,15 @@ loop-holds c = (omega arith, λ j l. absurd (omega arith))
 
 bound-fine-requires : tie.Need-bound-fine-requires Inv-loop μ-loop
 bound-fine-requires c κs =
-    let a = c .before .before .before .before .before .before .before .before .args in
+    let a = start-from-in-loop c .args in
     let w = c .before .before .wide .ensures in
     let l = frame-long (a .x .now) (sym (c .before .before .before .before .before .frame-fine .ensures) ∙ not-false _ (c .before .before .before .before .if1 .left)) in
     let n = count-read (a .x .now) _ (w .0) in
-    (c .before .before .before .before .before .before .before .before .pre, omega (arith, c .loop-test .taken, w .1), omega (arith, c .loop-test .taken, l, n))
+    (start-from-in-loop c .pre, omega (arith, c .loop-test .taken, w .1), omega (arith, c .loop-test .taken, l, n))
 
 returns-2 : tie.Need-returns-2 Inv-loop μ-loop
 returns-2 c =
-    let a = c .before .before .before .before .before .before .before .before .before .before .args in
+    let a = start-from-then2 c .args in
     let f = sym (c .before .before .before .before .before .before .before .frame-fine .ensures) ∙ not-false _ (c .before .before .before .before .before .before .if1 .left) in
     let n = count-read (a .x .now) _ (c .before .before .before .before .wide .ensures .0) in
     sym (bounds-fail (a .t .now) (a .x .now) f (c .before .before .before .loop .k) (omega (arith, c .before .before .loop-test .taken, n)) (sym (c .before .bound-fine .ensures) ∙ not-true _ (c .if2 .taken)))
@@ -58,7 +71,7 @@ loop-again c = (omega arith, below-more _ _ (c .before .before .before .loop .in
 
 returns-3 : tie.Need-returns-3 Inv-loop μ-loop
 returns-3 c =
-    let a = c .before .before .before .before .before .before .before .before .args in
+    let a = start-from-loop c .args in
     let f = sym (c .before .before .before .before .before .frame-fine .ensures) ∙ not-false _ (c .before .before .before .before .if1 .left) in
     let n = count-read (a .x .now) _ (c .before .before .wide .ensures .0) in
     sym (bounds-pass (a .t .now) (a .x .now) f (λ k l. c .before .loop .inv .1 k (omega (arith, l, n, c .loop-test .left))))

@@ -8,6 +8,13 @@ use borrow.Author.Needs.{needs}
 use Rattle.terms.proofs.bounds.frame_fine.Statement.{statement}
 use Rattle.terms.proofs.bounds.frame_fine.Tie as tie
 
+-- ---- places, each from a later one
+abbrev start-from-shared-slice-known : tie.After-shared-slice-known → tie.Start
+start-from-shared-slice-known c = c .before
+
+abbrev start-from-wide : tie.After-wide → tie.Start
+start-from-wide c = start-from-shared-slice-known (c .before .before .before .before .before .before .before)
+
 returns : tie.Need-returns
 returns c = sym (frame-short (c .before .before .args .x .now) (c .if1 .taken))
 
@@ -40,7 +47,7 @@ add-result c = search needs
 
 returns-4 : tie.Need-returns-4
 returns-4 c =
-    let a = c .before .before .before .before .before .before .before .before .args in
+    let a = start-from-wide c .args in
     ap (λ (z : ℕ). eqb (length (a .x .now)) (4 + 9 * z)) (c .wide .ensures .0)
     ∙ sym (frame-count (a .x .now) (ap (λ (z : ℕ). z + 2) (sym (c .before .before .before .before .before .read16 .ensures .0)) ∙ c .before .before .before .before .if2 .left) (c .before .before .if3 .left))
 

@@ -1,2 +1,0 @@
--- The step, said of a marking that is held.
-pub mod Moves
