@@ -20,7 +20,7 @@ use Rattle.paper.proofs.Sameness.{elem-in, in-elem, on-last}
 use Rattle.table.specs.Reading.{tableRead}
 use Rattle.table.proofs.Reading.{read-refused}
 use Rattle.offers.specs.Sets.{nth}
-use Rattle.offers.specs.Rows.{rowsIn, cell}
+use Rattle.offers.specs.Rows.{rowsIn, rowCells, cell}
 use Rattle.offers.specs.Struct.{Copied, besideIn, rowsOf}
 use Rattle.offers.proofs.Sets.{member}
 use Rattle.offers.specs.declared.Offers.{Offers}
@@ -64,7 +64,7 @@ module _ {show : Bool} {t b : List ℕ} {w : Terms} {x : Held} {m : List ℕ} {c
       omega (arith, r .last-is)
 
   -- the ends can be seated
-  pub laid-seatable : 20 ≤ length (s .ends) → 1024 ≤ length m → Seatable m (s .ends) n (edges t)
+  pub laid-seatable : limits .mostEnds ≤ length (s .ends) → rowCells ≤ length m → Seatable m (s .ends) n (edges t)
   laid-seatable q r = record {
     rowed = record {
       many = omega (arith, l .listed .few);

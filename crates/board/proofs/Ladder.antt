@@ -19,6 +19,8 @@ use Rattle.paper.proofs.Values.{joined-passes}
 use Rattle.table.specs.declared.Table.{Table}
 use Rattle.table.specs.Reading.{tableRead}
 use Rattle.table.proofs.Reading.{read-fine, read-good}
+use Rattle.marking.specs.declared.reading.MarkingAnswer.{MarkingAnswer}
+use Rattle.marking.specs.Reading.{MarkingRead}
 use Rattle.marking.specs.declared.reading.MarkingAnswer.the-variants.{Ended, Refused as NoMarking}
 use Rattle.offers.specs.Rows.{Rows, rowsIn, fine}
 use Rattle.terms.specs.Terms.{termsFine, Ties}
@@ -27,12 +29,11 @@ use Rattle.terms.proofs.GuardLaws.{guards-long}
 use Rattle.offers_all.specs.Stages.{Gates, Input, Whole, onEdge}
 use Rattle.offers_all.proofs.Inputs.{good-flat}
 use Rattle.marking_held.specs.declared.Held.{Held}
-use Rattle.marking_held.specs.declared.HeldAnswer.{HeldAnswer}
-use Rattle.marking_held.specs.MarkingHeld.{MarkingHeld, LiveMarking, ReadUp}
+use Rattle.marking_held.specs.MarkingHeld.{MarkingHeld, LiveMarking}
 use Rattle.marking_held.proofs.HeldLaws.{refused-up, ended-up}
 use Rattle.ends.specs.declared.EndsAnswer.{EndsAnswer}
 use Rattle.ends.specs.declared.EndsAnswer.the-variants.{Good, Refused}
-use Rattle.ends.specs.Ends.{Listed, Arranged}
+use Rattle.ends.specs.Ends.{EndsListed, Arranged}
 use Rattle.board.specs.Starts.{Begun}
 use Rattle.board.specs.Reading.{EndsLent, Laid, BoardLaid}
 use Rattle.board.proofs.StartLaws.{starts-are}
@@ -42,14 +43,14 @@ module _ (t b g x : List ℕ) {k : Table} (e : tableRead t ≡ good k) where
   abbrev w : Terms
   w = terms g x
 
-  module _ (r : HeldAnswer) (h : ReadUp t b (marking t b) r) where
-    pub board-5 : (n p : ℕ) → r .answer ≡ NoMarking n p → board t b w ≡ refused n p
+  module _ (from kept tokens : List ℕ) (r : MarkingAnswer) (h : MarkingRead t b from kept tokens (marking t b) r) where
+    pub board-5 : (n p : ℕ) → r ≡ NoMarking n p → board t b w ≡ refused n p
     unfolding board
-    board-5 n p q = let z = refused-up t b r h n p q in rw (read-fine t e, z .0, z .1, z .2)
+    board-5 n p q = let z = refused-up t b from kept tokens r h n p q in rw (read-fine t e, z .0, z .1, z .2)
 
-    pub board-6 : r .answer ≡ Ended → board t b w ≡ refused 6 0
+    pub board-6 : r ≡ Ended → board t b w ≡ refused 6 0
     unfolding board boardOf
-    board-6 q = let z = ended-up t b r h q in rw (read-fine t e, z .1, z .2)
+    board-6 q = let z = ended-up t b from kept tokens r h q in rw (read-fine t e, z .1, z .2)
 
   module _ {y : Held} (l : LiveMarking t b y) where
     abbrev os : List Offer
@@ -111,7 +112,7 @@ module _ (t b g x : List ℕ) {k : Table} (e : tableRead t ≡ good k) where
           (λ h. let k = in-gather (onEdge t (goesOver w) (l .current)) (below (edges t)) (elem-in _ h) in in-elem (gather-in (onEdge t (goesOver w) (l .current)) (z .all-edges (k .0) (in-below (edges t) (k .1))) (k .2)))
 
       module _ (show : Bool) (m : List ℕ) (count : ℕ) (z : EndsLent) (a c : List ℕ) (h : Whole t (l .current) (goesOver w) (rowsIn m count) a c) where
-        pub board-laid : (n : ℕ) → Listed (gather (onEdge t (goesOver w) (l .current)) (h .order)) (ends t os) show (z .ends) (z .order) (z .lens) (z .cells) n
+        pub board-laid : (n : ℕ) → EndsListed (gather (onEdge t (goesOver w) (l .current)) (h .order)) (ends t os) show (z .ends) (z .order) (z .lens) (z .cells) n
             → Laid show t b w y m count z n
         board-laid n s = record {
           on = theBoard;

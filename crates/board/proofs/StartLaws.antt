@@ -20,7 +20,7 @@ use Rattle.marking_held.specs.declared.Held.{Held}
 use Rattle.marking_held.specs.MarkingHeld.{MarkingHeld}
 use Rattle.marking_held.proofs.HeldLaws.{stock-stays}
 use Rattle.marking_held.proofs.HoldingLaws.{set-more}
-use Rattle.offers.specs.Rows.{begunOn}
+use Rattle.offers_over.specs.Over.{begunOn}
 use Rattle.board.specs.Starts.{startCode, Begun}
 
 -- ---- the code of one edge

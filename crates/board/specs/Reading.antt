@@ -11,7 +11,7 @@ use Rattle.paper.specs.Choices.{board, Board}
 use Rattle.offers.specs.Rows.{rowsIn, Holds}
 use Rattle.ends.specs.declared.EndsAnswer.{EndsAnswer}
 use Rattle.ends.specs.declared.EndsAnswer.the-variants.{Good, Refused}
-use Rattle.ends.specs.Ends.{Rooms, Listed}
+use Rattle.ends.specs.Ends.{Rooms, EndsListed}
 use Rattle.marking_held.specs.declared.Held.{Held}
 use Rattle.marking_held.specs.MarkingHeld.{MarkingHeld}
 
@@ -37,7 +37,7 @@ pub record Laid (show : Bool) (t b : List ℕ) (w : Terms) (x : Held) (m : List 
   pub table-is : on .table ≡ t
   pub holds-ts : Holds t (rowsIn m c) trees
   pub offers-are : (y : Offer) → elem y trees ≡ elem y (on .allOffers)
-  pub listed : Listed trees (on .allEnds) show (s .ends) (s .order) (s .lens) (s .cells) n
+  pub listed : EndsListed trees (on .allEnds) show (s .ends) (s .order) (s .lens) (s .cells) n
   pub held-as : MarkingHeld t (on .current) b [] x
 
 -- row 8 of a live marking under fine terms, and the board

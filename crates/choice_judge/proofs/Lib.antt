@@ -1,6 +1,4 @@
 -- Laws of judging.
 pub mod Masks
 pub mod Parted
-pub mod Starting
-pub mod Unfit
 pub mod Meaning

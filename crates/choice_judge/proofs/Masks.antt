@@ -1,47 +1,32 @@
--- What masks of ends and words of rows say: ends are counted by the ones of mask and choice; rules 1 and 2 by words of makers and foes. Assumes nothing.
-use mathlib.Core.Path.{_≡_, sym, ap, ap₂, _∙_}
+-- What masks of ends and words of rows say: rules 1 and 2 by words of makers and foes. Assumes nothing.
+use mathlib.Core.Path.{_≡_, ap, ap₂, _∙_}
 use mathlib.Core.Logic.{⊎-elim}
 use mathlib.Core.Bool.{Bool, true, false, not, _&&_, and-comm}
 use mathlib.Core.List.{List}
 use mathlib.Core.Option.{none, some}
-use Prim.Native.Nat.{ℕ, _^_, _≤_, _<_}
+use Prim.Native.Nat.{ℕ, _^_, _<_}
 use lib.Dec.{eqb}
 use lib.Bits.{bitAnd}
-use lib.Count.{ones}
-use borrow.Author.Tests.{not-true, not-false}
-use Rattle.paper.specs.Lists.{at, has, below, any, count, _⇒_}
+use Rattle.paper.specs.Lists.{at, has, below, any, _⇒_}
 use Rattle.paper.specs.Table.{nodes, kind, isFork}
 use Rattle.paper.proofs.Bits.{meet-has, has-meet}
 use Rattle.paper.proofs.Bools.{never, and-true, and-both, or-true, false-if}
 use Rattle.paper.proofs.Lists.{lowest-none, lowest-some}
-use Rattle.paper.proofs.Counts.{count-below-same, count-most}
 use Rattle.paper.proofs.Members.{any-in, in-any, below-in, in-below}
-use Rattle.words.proofs.Ones.{ones-both, some-both}
+use Rattle.words.proofs.Ones.{some-both}
 use Rattle.offers.specs.Sets.{Marks, wordsClash}
-use Rattle.ends_masks.specs.Seating.{rival, rivalled, firstRivalled, siblings, makes, kept, passed, forks, seats}
+use Rattle.ends_masks.specs.Seating.{rival, rivalled, firstRivalled, siblings, makes, kept, passed, forks}
 use Rattle.ends_masks.proofs.Numbers.{any-below-alike, all-below-alike, lowest-alike}
 use Rattle.choice_judge.specs.Judging.{keptIn, passedIn, forksIn}
 
 -- ---- a mask and a choice
 module _ {p : ℕ → Bool} {n w : ℕ} (c : ℕ) (m : Marks p n w) where
-  counted : ones (bitAnd w c) ≡ count (λ k. has c k && p k) (below n)
-  counted =
-      ones-both n w c (m .small)
-      ∙ count-below-same (λ k. has w k && has c k) (λ k. has c k && p k) n (λ k l. ap (λ (b : Bool). b && has c k) (m .says k l) ∙ and-comm (p k) (has c k))
-
   met : not (eqb (bitAnd w c) 0) ≡ any (λ k. has c k && p k) (below n)
   met =
       some-both n w c (m .small)
       ∙ any-below-alike (λ k. has w k && has c k) (λ k. has c k && p k) n (λ k l. ap (λ (b : Bool). b && has c k) (m .says k l) ∙ and-comm (p k) (has c k))
 
 -- ---- ends that are taken
-pub ones-few : (w c : ℕ) → w < 2 ^ 32 → ones (bitAnd w c) ≤ 32
-ones-few w c l = rw (ones-both 32 w c l) (count-most (λ k. has w k && has c k) 32)
-
-pub seats-mask : (column : List ℕ) (n c x w : ℕ) → Marks (λ k. eqb (at column k) x) n w → ones (bitAnd w c) ≡ seats column n c x
-unfolding seats
-seats-mask column n c x w m = counted c m
-
 pub rivalled-mask : (foes makers : List ℕ) (n c k w : ℕ) → Marks (rival foes makers k) n w → not (eqb (bitAnd w c) 0) ≡ rivalled foes makers n c k
 unfolding rivalled
 rivalled-mask foes makers n c k w m = met c m
@@ -100,11 +85,3 @@ apart-by-words foes makers n c f w hf hw small e =
         let x = hf y ∙ in-any (λ k. has c k && has (at foes k) y) (below-in n l) (and-both (has c j) (has (at foes j) y) p (m .2)) in
         let v = hw y ∙ in-any (λ k. has c k && has (at makers k) y) (below-in n g) (and-both (has c k) (has (at makers k) y) q (m .3)) in
         never (not (eqb (bitAnd f w) 0)) (has-meet f w y x v) (ap (λ (d : ℕ). not (eqb d 0)) e)
-
--- ---- a rule asked only where it applies: r was asked for a
-module _ {r a : Bool} (e : r ≡ a) (q : Bool) where
-  pub stops : not r ≡ true → false ≡ a && q
-  stops h = rw (sym e ∙ not-true r h)
-
-  pub goes-on : not r ≡ false → q ≡ a && q
-  goes-on h = rw (sym e ∙ not-false r h)

@@ -1,35 +1,25 @@
--- What judging a choice answers; rule 2 said by the word of all makers of taken ends, and rule 3 by masks of the ends and marks of
--- what starts. Assumes nothing.
+-- What judging a choice answers, and rule 2 said by the word of all makers of taken ends. Assumes nothing.
 use mathlib.Core.Path.{_≡_}
-use mathlib.Core.Bool.{Bool, not, _&&_, _||_}
+use mathlib.Core.Bool.{Bool, not, _&&_}
 use mathlib.Core.List.{List, [], _∷_}
-use mathlib.Core.Option.{Option, none, some}
-use Prim.Native.Nat.{ℕ, _+_, _<_}
-use lib.Dec.{leb, ltb, eqb}
-use lib.Bits.{bitAnd}
-use lib.Count.{ones}
+use mathlib.Core.Option.{Option}
+use Prim.Native.Nat.{ℕ, _<_}
+use lib.Dec.{ltb, eqb}
 use lib.ListN.{length}
-use Rattle.paper.specs.Lists.{at, has, below, all, any, lowest, within, _⇒_}
+use Rattle.paper.specs.Lists.{at, has, below, all, any, lowest, _⇒_}
 use Rattle.paper.specs.Answers.{Answer, refused, good}
-use Rattle.paper.specs.Table.{nodes, kind, owner, lower, upper, target, isAction, isInput, isFork, isBuffer, isOutgoing}
+use Rattle.paper.specs.Table.{nodes, kind, isFork}
 use Rattle.words.specs.Marks.{placed}
 use Rattle.offers.specs.declared.Offers.{Offers}
 use Rattle.ends_masks.specs.declared.Ends.{Ends}
-use Rattle.ends_masks.specs.Seating.{siblings, firstRivalled, forks, served, homes}
+use Rattle.ends_masks.specs.Seating.{siblings, firstRivalled, forks, homes}
 use Rattle.choice_judge.specs.declared.Judged.{Judged}
 use Rattle.choice_judge.specs.declared.Judged.the-variants.{Fine, Refused}
-use Rattle.choice_judge.specs.declared.Found.{Found}
-use Rattle.choice_judge.specs.declared.Found.the-variants.{At, Nothing}
 
 -- the number and the place of each answer
 abbrev pub said : Judged → Answer (Unit {0})
 said Fine = good tt
 said (Refused n p) = refused n p
-
--- the place of each answer of a search
-abbrev pub found : Found → Option ℕ
-found (At i) = some i
-found Nothing = none
 
 -- the rules with their numbers, in order
 module _ (t : List ℕ) (o : Offers) (e : Ends) (runs stock : List ℕ) where
@@ -60,28 +50,3 @@ module _ (node parents : List ℕ) (rows w : ℕ) where
 -- for each node, the word of what the rows of w below j that leave it were made from
 pub record PassedOn (node parents : List ℕ) (w j : ℕ) (passed : List ℕ) : Type 0 where
   pub digits : (i : ℕ) → i < length passed → (b : ℕ) → has (at passed i) b ≡ placed (λ y. has w y && has (at parents y) b) (at node) j i
-
--- ---- rule 3, by masks of the ends
--- how many ends of the mask of x are taken
-abbrev pub took : List ℕ → ℕ → ℕ → ℕ
-took masks c x = ones (bitAnd (at masks x) c)
-
--- node i is an action to which a taken end belongs
-abbrev pub startsIn : List ℕ → List ℕ → List ℕ → ℕ → ℕ → ℕ → Bool
-startsIn t target home n c i = isAction (kind t i) && served target home n c i
-
--- what is wrong, where s says which actions start
-module _ (t : List ℕ) (s : ℕ → Bool) (c : ℕ) where
-  -- edge e goes into one, and none or more than one end is taken on it
-  unfoldable pub edgeWrong : List ℕ → ℕ → Bool
-  edgeWrong byEdge e = s (target t e) && not (eqb (took byEdge c e) 1)
-
-  -- p is an input pin of one, and fewer or more ends are taken at it than it wants
-  unfoldable pub pinWrong : List ℕ → ℕ → Bool
-  pinWrong byTarget p = isInput (kind t p) && s (owner t p) && not (within (lower t p) (upper t p) (took byTarget c p))
-
-  -- node i is one that runs, or a store without room for what is taken
-  unfoldable pub nodeWrong : List ℕ → List ℕ → List ℕ → ℕ → Bool
-  nodeWrong byTarget runs stock i =
-      (s i && not (eqb (at runs i) 0))
-      || ((isBuffer (kind t i) || isOutgoing (kind t i)) && not (leb (at stock i + took byTarget c i) (upper t i)))

@@ -20,7 +20,8 @@ use Rattle.ends_paths.proofs.Insertion.{in-order-inside}
 use Rattle.ends_paths.proofs.Slots.{paths-few}
 use Rattle.ends.specs.Ends.{Stored, Told}
 use Rattle.ends.specs.declared.EndsAnswer.the-variants.{Good, Refused}
-use Rattle.ends.specs.Slots.{byEnd, listOf, shown, endRows}
+use Rattle.ends_order.specs.Order.{byEnd, listOf, shown}
+use Rattle.ends.specs.Slots.{endRows}
 use Rattle.ends.proofs.Order.{paths-legible}
 use Rattle.ends.proofs.Sorts.{run-entry, run-part}
 use Rattle.ends.proofs.Meaning.{Done, rows-are-ends, slot-found, paths-number, list-is, slots-are}

@@ -17,7 +17,8 @@ use Rattle.offers.proofs.Segments.{gather-snoc}
 use Rattle.ends_paths.specs.Blocks.{run}
 use Rattle.ends_paths.proofs.Runs.{run-split, run-same}
 use Rattle.ends_paths.proofs.Walks.{length-run}
-use Rattle.ends.specs.Slots.{Grouped, endsOn, endRows, keyOf, Added, Keyed}
+use Rattle.ends_order.specs.Order.{Grouped}
+use Rattle.ends.specs.Slots.{endsOn, endRows, keyOf, Added, Keyed}
 
 -- ---- rows added
 -- one cell more behind the first n

@@ -23,7 +23,8 @@ use Rattle.offers.proofs.Segments.{each-append, seg-nth, seg-len}
 use Rattle.ends_paths.specs.Blocks.{firstBlock, run, pathIn, byPath, Tame, Back, pathsOf}
 use Rattle.ends_paths.proofs.Insertion.{run-in}
 use Rattle.ends_paths.proofs.Slots.{paths-under}
-use Rattle.ends.specs.Slots.{listOf, byEnd, Asked, shared, Ordered, endsOn, endRows, keyOf, Keyed}
+use Rattle.ends_order.specs.Order.{listOf, byEnd, Asked, shared}
+use Rattle.ends.specs.Slots.{Ordered, endsOn, endRows, keyOf, Keyed}
 use Rattle.ends.proofs.Order.{pair-compared, then-same, then-assoc}
 use Rattle.ends.proofs.Sorts.{each-each, keep-all, run-list, sort-each}
 

@@ -40,7 +40,7 @@ pub record Stored (lens cells : List ℕ) (q : ℕ) (p : List ℕ) : Type 0 wher
 
 -- the n ends es, where ts are the trees of the rows: end k is row `ends k`; and where paths are shown, its path j, in sorted order, is in block
 -- `order (firstBlock k + j)`
-pub record Listed (ts es : List Offer) (show : Bool) (ends order lens cells : List ℕ) (n : ℕ) : Type 0 where
+pub record EndsListed (ts es : List Offer) (show : Bool) (ends order lens cells : List ℕ) (n : ℕ) : Type 0 where
   pub number : n ≡ length es
   pub few : n ≤ limits .mostEnds
   pub inside : (k : ℕ) → k < n → at ends k < length ts
@@ -50,7 +50,7 @@ pub record Listed (ts es : List Offer) (show : Bool) (ends order lens cells : Li
 
 -- the ends are listed, or there are too many: row 8
 abbrev pub Arranged : EndsAnswer → List Offer → List Offer → Bool → List ℕ → List ℕ → List ℕ → List ℕ → Type 0
-Arranged (Good n) ts es show ends order lens cells = Listed ts es show ends order lens cells n
+Arranged (Good n) ts es show ends order lens cells = EndsListed ts es show ends order lens cells n
 Arranged (Refused n p) ts es show ends order lens cells = (n ≡ 8) × ((p ≡ 0) × (limits .mostEnds < length es))
 
 -- of every offer list whose rows are lent, and whose edges have their offers from a to b

@@ -17,13 +17,14 @@ use Rattle.paper.specs.Table.{kind, owner, isPin, target as targetOfEdge}
 use Rattle.paper.proofs.Bits.{has-or}
 use Rattle.paper.proofs.Counts.{any-below}
 use Rattle.paper.proofs.Digits.{has-zero}
+use Rattle.paper.specs.Limits.{limits}
 use Rattle.offers.specs.Sets.{Marks}
 use Rattle.offers.specs.Rows.{rowsIn}
 use Rattle.ends_masks.specs.Seating.{Columns, makes}
 
 -- ---- words of the numbers that pass
 -- few digits fit a word of 32
-pub marks-fit : {p : ℕ → Bool} {n w : ℕ} → Marks p n w → n ≤ 20 → w < 4294967296
+pub marks-fit : {p : ℕ → Bool} {n w : ℕ} → Marks p n w → n ≤ limits .mostEnds → w < 4294967296
 marks-fit {p} {n} {w} m l = lt-of-lt-of-le (m .small) (let h : n ≤ 32 = omega arith in pow-mono h)
 
 pub marks-all : {p : ℕ → Bool} {k n w : ℕ} → k ≡ n → Marks p k w → Marks p n w

@@ -16,7 +16,7 @@ use Rattle.paper.specs.Marking.{Marking}
 use Rattle.paper.specs.Offers.{Offer, elem}
 use Rattle.paper.specs.Choices.{Board, howMany, end}
 use Rattle.offers.specs.Sets.{nth, wordsClash}
-use Rattle.offers.specs.Rows.{Rows, rowsIn, cell, Holds}
+use Rattle.offers.specs.Rows.{Rows, rowsIn, rowCells, cell, Holds}
 use Rattle.offers.specs.Struct.{Beside, rowsOf}
 use Rattle.offers.specs.declared.Offers.{Offers}
 use Rattle.ends_masks.specs.declared.Ends.{Ends}
@@ -30,7 +30,7 @@ pub record Rowed (ends : List ℕ) (n rows : ℕ) : Type 0 where
 -- the first n ends can be seated: they are rows in the cells m, and each one's last edge, as a byte says it, is one of so many
 pub record Seatable (m ends : List ℕ) (n edges : ℕ) : Type 0 where
   pub rowed : Rowed ends n (limits .mostOffers)
-  pub cells-there : 1024 ≤ length m
+  pub cells-there : rowCells ≤ length m
   pub lasts : (k : ℕ) → k < n → rowsIn m 0 .entry (at ends k) .last % 256 < edges
 
 -- the columns of the ends, rows in the cells m: last edge, target, and the node that a target belongs to, its action for a pin and itself for others

@@ -12,7 +12,7 @@ ghost use Rattle.paper.specs.Answers.{good};
 ghost use Rattle.paper.specs.Table.{kind, owner, isPin};
 ghost use Rattle.table.specs.Reading.{tableRead};
 ghost use Rattle.offers.specs.Sets.{Marks};
-ghost use Rattle.offers.specs.Rows.{cell};
+ghost use Rattle.offers.specs.Rows.{rowCells, cell};
 ghost use Rattle.ends_masks.specs.Seating.{Columns, Rowed, Seatable, EndsFull, EndsSeated, rival, siblings, makes};
 ghost use Rattle.paper.specs.Limits.{limits};
 use offers::MOST_ENDS;
@@ -70,7 +70,7 @@ fn columns(
 
 // Cell i of each end's row.
 fn words_of(rows: &[u64], i: usize, ends: &[u8], n: usize) -> [u64; MOST_ENDS]
-    requires { ⌜ Rowed (now ends) n (limits .mostOffers) × (1024 ≤ length (now rows)) × (i < 8) × (n ≤ limits .mostEnds) ⌝ }
+    requires { ⌜ Rowed (now ends) n (limits .mostOffers) × (rowCells ≤ length (now rows)) × (i < 8) × (n ≤ limits .mostEnds) ⌝ }
     ensures { λ r. ⌜ (length r ≡ limits .mostEnds) × ((k : ℕ) → k < n → at r k ≡ cell (now (rows .entry)) (at (now (ends .entry)) k) i) ⌝ }
 {
     let mut to = [0u64; MOST_ENDS];

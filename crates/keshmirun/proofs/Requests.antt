@@ -11,8 +11,9 @@ use Rattle.paper.specs.Choices.{board}
 use Rattle.paper.specs.Operations.{sheet, step, PickOn, Pick, WhyIf, Why, packed, inRoom, Reply, Leaves}
 use Rattle.table.specs.Reading.{tableRead}
 use Rattle.offers.specs.declared.Offers.{Offers}
+use Rattle.offers.specs.Rows.{rowCells}
 use Rattle.marking_held.specs.declared.Held.{Held}
-use Rattle.ends.specs.Ends.{Listed}
+use Rattle.ends.specs.Ends.{EndsListed}
 use Rattle.board.specs.Reading.{EndsLent, EndsRoom, Laid}
 use Rattle.board.proofs.BoardLaws.{board-refused}
 use Rattle.sheet_write.specs.Listing.{Shows, sheetShown}
@@ -58,8 +59,8 @@ module _ (t b : List ℕ) (w : Terms) (ks : List ℕ) where
 -- ---- a sheet: its paths were put together
 module _ {show : Bool} {t b : List ℕ} {w : Terms} {x : Held} {m : List ℕ} {c : ℕ} {s : EndsLent} {n : ℕ} (l : Laid show t b w x m c s n) (r : EndsRoom s)
     (q : Request) (shown : show ≡ shows q) (e : q ≡ Sheet) where
-  listed-then : Listed (l .trees) (l .on .allEnds) true (s .ends) (s .order) (s .lens) (s .cells) n
-  listed-then = subst (λ (v : Bool). Listed (l .trees) (l .on .allEnds) v (s .ends) (s .order) (s .lens) (s .cells) n) (shown ∙ ap shows e) (l .listed)
+  listed-then : EndsListed (l .trees) (l .on .allEnds) true (s .ends) (s .order) (s .lens) (s .cells) n
+  listed-then = subst (λ (v : Bool). EndsListed (l .trees) (l .on .allEnds) v (s .ends) (s .order) (s .lens) (s .cells) n) (shown ∙ ap shows e) (l .listed)
 
   pub sheet-leaves : (ks : List ℕ) (word : ℕ) (out after : List ℕ)
       → Reply (inRoom (length out) (good (sheetShown m (s .ends) (s .order) (s .lens) (s .cells) n))) word out after → Responds q t b w ks word out after
@@ -71,7 +72,7 @@ module _ {show : Bool} {t b : List ℕ} {w : Terms} {x : Held} {m : List ℕ} {c
     reply = h;
   })
 
-  pub laid-shows : 1024 ≤ length m → Shows m (s .ends) (s .order) (s .lens) (s .cells) n
+  pub laid-shows : rowCells ≤ length m → Shows m (s .ends) (s .order) (s .lens) (s .cells) n
   laid-shows f =
       listed-shows t m c (l .trees) (l .on .allEnds) (s .ends) (s .order) (s .lens) (s .cells) n (r .cells-room) (l .holds-ts) listed-then
       (omega (arith, l .listed .few, r .ends-room)) f (r .order-room) (r .lens-room)

@@ -105,9 +105,10 @@ pub fn ask(
     requires { ⌜ tableRead (now t) ≡ good table ⌝ }
     ensures { λ r. ⌜ Responds request (now (t .entry)) (now (b .entry)) (terms (now (g .entry)) (now (bounds .entry))) (now (choice .entry)) r (now (out .entry)) (now (out .exit)) ⌝ }
 {
-    let reading = marking_held::read_up(t, table, b);
-    let live = reading.answer;
-    match live {
+    let mut from = [0u16; Table::MOST_NODES];
+    let mut kept = [0u8; Table::MOST_NODES];
+    let mut tokens = [0u8; Table::MOST_EDGES];
+    match marking::read(t, table, b, &mut from, &mut kept, &mut tokens) {
         MarkingAnswer::Live => {}
         MarkingAnswer::Ended => return wire::pack(6, 0, 0),
         MarkingAnswer::Refused(number, place) => return wire::pack(number, place, 0),
@@ -115,5 +116,6 @@ pub fn ask(
     if let TermsAnswer::Refused(number, place) = terms::read(t, table, g, bounds) {
         return wire::pack(number, place, 0);
     }
-    respond(t, table, b, reading.held, g, bounds, request, choice, out)
+    let held = marking_held::take_up(from, kept, tokens);
+    respond(t, table, b, held, g, bounds, request, choice, out)
 }

@@ -2,29 +2,32 @@
 use mathlib.Core.Path.{_≡_, refl, sym, ap, ap₂, _∙_}
 use Prim.Native.Nat.{ℕ, suc, _+_, _-_, _*_, _≤_, _<_}
 use native.Mathlib.Omega.{arith}
-use mathlib.Core.Bool.{Bool, true, false, not, _&&_, _||_, cond}
+use mathlib.Core.Bool.{Bool, true, false, not, _&&_, _||_, cond, Bool·beq}
 use mathlib.Core.List.{List, [], _∷_, _++_, append-nil}
 use mathlib.Core.Option.{Option, none, some}
 use lib.Dec.{leb, ltb, eqb}
 use lib.ListN.{length, drop, set, length-drop, length-append}
 use lib.Seq.{getD-set-same, getD-set-other, getD-drop, take-at, drop-cons}
 use borrow.Author.Tests.{eq-eqb, ne-eqb, eqb-true, eqb-false, ltb-true, le-leb, lt-leb}
-use Rattle.paper.specs.Lists.{at, all, from, below, keep, each, gather, oneIf, _⇒_}
+use Rattle.paper.specs.Lists.{at, all, from, below, keep, each, gather, oneIf, within, _⇒_}
 use Rattle.paper.specs.Answers.{refused, good}
 use Rattle.paper.specs.Bytes.{goOn, _>>=_, done, fail, whole, framed, byte, valuesRead, upTo, four, listed}
-use Rattle.paper.specs.Table.{nodes, edges, isPin, isOutgoing, kind, owner, lower, upper, isInput, edgeKind, source, isInitial, isObjectNode, isAction}
+use Rattle.paper.specs.Table.{nodes, edges, isPin, isOutgoing, kind, owner, lower, upper, isInput, source, isObject, isInitial, isObjectNode, isAction, mayLeave}
 use Rattle.paper.specs.Marking.{Marking, blank, Field, stockOf, runsOf, tokensOf, written, counted, nodeFields, fieldRead, fieldsRead, layout, pinFine, cleared, markingFine, markingRead, marking}
 use Rattle.paper.proofs.Members.{In, Distinct, here as in-front, in-none, in-one}
 use Rattle.paper.proofs.Lengths.{gather-append, drop-head}
 use Rattle.paper.proofs.Counts.{all-append, all-gather}
 use Rattle.paper.proofs.Fields.{fields-append, node-once, node-only, not-both}
-use Rattle.paper.proofs.Bools.{never, and-true}
-use Rattle.paper.proofs.Lists.{below-more, below-split}
+use Rattle.paper.proofs.Bools.{never, and-true, if-true}
+use Rattle.paper.proofs.Lists.{all-below, below-more, below-split}
 use Rattle.paper.specs.Limits.{limits}
 use Rattle.paper.proofs.Tables.{NodeFields, upper-fits}
 use Rattle.paper.proofs.Bytes.{Bytes, never-some, same-read, went-on, length-listed}
 use Rattle.paper.proofs.Cursor.{byte-at, byte-none}
 use Rattle.paper.proofs.OneMarking.{Taken, fields-are, contentRead, put, put-ended, field-reads}
+use Rattle.table.specs.declared.Table.{Table}
+use Rattle.table.specs.Reading.{tableRead}
+use Rattle.table.proofs.Reading.{read-good as table-read, read-spans}
 use Rattle.marking.specs.Reading.{Reads, NodeRead, EdgeRead, NodesRead, EdgesRead, edgeFields, nodeClear, edgeClear, Head, Walked, Walk, said, MarkingRead}
 use Rattle.marking.specs.Values.{ValuesNoted}
 use Rattle.marking.specs.declared.reading.MarkingAnswer.{MarkingAnswer}
@@ -184,13 +187,26 @@ node-step t b from kept p q i x u lf lk lp lq f e =
     rw (getD-set-other from i k (p + 1) 0 d, getD-set-other kept i k x 0 d) (node-still t b i k (at from k) (at kept k) a m (drop p b) (drop q b) n w h))
 
 -- ---- the edges' counts
-pub object-uncounted : (t : List ℕ) (j : ℕ) → edgeKind t j ≡ 1 → counted t j ≡ false
-unfolding counted
-object-uncounted t j e = rw e
+-- in a good table the kind of its source says whether an edge has a count: what leaves an initial node or an action is a control edge
+by-kind : (o : Bool) (k : ℕ) → k ≤ 13 → mayLeave o k ≡ true → within 1 2 k ≡ not o && (isInitial k || isAction k)
+by-kind o k l h = same _ _ (if-true (mayLeave o k) _ (by o) h)
+  where
+    by : (o : Bool) → (mayLeave o k ⇒ Bool·beq (within 1 2 k) (not o && (isInitial k || isAction k))) ≡ true
+    by true = all-below (λ k. mayLeave true k ⇒ Bool·beq (within 1 2 k) false) 14 refl k (omega arith)
+    by false = all-below (λ k. mayLeave false k ⇒ Bool·beq (within 1 2 k) (isInitial k || isAction k)) 14 refl k (omega arith)
 
-pub counted-by : (t : List ℕ) (j : ℕ) → (edgeKind t j ≡ 1 → ⊥) → counted t j ≡ isInitial (kind t (source t j)) || isAction (kind t (source t j))
+    same : (a b : Bool) → Bool·beq a b ≡ true → a ≡ b
+    same true true e = refl
+    same true false e = sym e
+    same false true e = e
+    same false false e = refl
+
+pub counted-by-kind : (t : List ℕ) {x : Table} → tableRead t ≡ good x → (j : ℕ) → j < x .edges → within 1 2 (kind t (source t j)) ≡ counted t j
 unfolding counted
-counted-by t j n = rw (ne-eqb (edgeKind t j) 1 n)
+counted-by-kind t h j l =
+    let s = read-spans t h in
+    let e = table-read t h .edge j (omega arith) in
+    by-kind (isObject t j) (kind t (source t j)) (table-read t h .node (source t j) (e .source-fits) .kind-to) (e .may-leave)
 
 module _ (t : List ℕ) (j : ℕ) (m : Marking) (b : List ℕ) (p : ℕ) where
   pub uncounted-reads : counted t j ≡ false → fieldsRead t (edgeFields t j) m (drop p b) ≡ some (m, drop p b)

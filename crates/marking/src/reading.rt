@@ -108,16 +108,13 @@ fn nodes_end(t: &[u8], table: Table, b: &[u8], from: &mut [u16], kept: &mut [u8]
     Next::At(place)
 }
 
-// Whether edge j has a count: a control edge that leaves an initial node or an action.
+// Whether edge j has a count: a control edge that leaves an initial node or an action. In a table that was read no other edges leave these.
 pub fn has_count(t: &[u8], table: Table, j: usize) -> bool
     requires { ⌜ (tableRead (now t) ≡ good table) × (j < table .edges) ⌝ }
     ensures { λ r. ⌜ r ≡ counted (now (t .entry)) j ⌝ }
 {
-    if table.edge_kind(t, j) == Table::OBJECT {
-        return false;
-    }
     let k = table.kind(t, table.source(t, j));
-    k == Table::INITIAL || k == Table::ACTION
+    table::within(Table::INITIAL, Table::ACTION, k)
 }
 
 // The count of edge j, if it has one.

@@ -9,7 +9,7 @@ use lib.Dec.{leb}
 use lib.ListN.{length, length-append}
 use borrow.Author.Tests.{leb-true, lt-ltb}
 use Rattle.paper.specs.Lists.{at, all, below}
-use Rattle.paper.specs.Answers.{Answer, refused, good}
+use Rattle.paper.specs.Answers.{refused, good}
 use Rattle.paper.specs.Bytes.{four}
 use Rattle.paper.specs.Limits.{limits}
 use Rattle.paper.specs.Table.{nodes, edges, kind, upper, source, isObjectNode}
@@ -22,18 +22,17 @@ use Rattle.paper.proofs.Lengths.{gather-append}
 use Rattle.paper.proofs.Members.{in-keep-below}
 use Rattle.paper.proofs.Given.{not-listed}
 use Rattle.paper.proofs.Tables.{GoodTable, upper-fits}
-use Rattle.marking.specs.Values.{isListed, listedNodes, saidOf, ValuesNoted, ValuesRead}
+use Rattle.marking.specs.Values.{isListed, listedNodes, ValuesNoted, ValuesRead}
 use Rattle.marking_held.specs.declared.Held.{Held}
 use Rattle.marking_held.proofs.HeldLaws.{stock-stays}
 use Rattle.marking_held.specs.MarkingHeld.{StockHeld, MarkingHeld}
-use Rattle.marking_give.specs.declared.GiveAnswer.{GiveAnswer}
-use Rattle.marking_give.specs.Giving.{gained, Amounts, CountsAre, Gained, giveOf, Givable, Gives}
+use Rattle.marking_give.specs.Giving.{gained, Amounts, CountsAre, Gained, giveOf, Givable, givenTo}
 use Rattle.marking.specs.declared.values.ValuesAnswer.the-variants.{Good, Refused}
 
 -- the reader of lists taken apart
 pub lists-refused : (t : List ℕ) (k o : ℕ) (b place more : List ℕ) (l : Option (List (List ℕ))) (n p : ℕ) → ValuesRead t k o b place more l (Refused n p)
-    → (l ≡ none) × (_≡_ {A = Answer (Unit {0})} (refused n p) (refused 15 0))
-lists-refused t k o b place more none n p h = (refl, h)
+    → (l ≡ none) × (n ≡ 15) × (p ≡ 0)
+lists-refused t k o b place more none n p h = (refl, cc h, cc h)
 lists-refused t k o b place more (some vss) n p h = no-good (h .0)
 
 pub lists-good : (t : List ℕ) (k o : ℕ) (b place more : List ℕ) (l : Option (List (List ℕ))) → ValuesRead t k o b place more l Good
@@ -58,11 +57,8 @@ module _ (t : List ℕ) (k o : ℕ) (fires : ℕ → Bool) (m : Marking) (b : Li
   give-all vss e r = rw (e, r)
 
   module _ (old : List ℕ) (x : Held) (g : Givable t k o m old x) (place more : List ℕ) where
-    pub gives-15 : (n p : ℕ) (r : GiveAnswer) → r .answer ≡ Refused n p → ValuesRead t k o b place more (valueLists (listedNodes t k o) b) (Refused n p)
-        → Gives t old b (giveOf t k o fires m b) r
-    gives-15 n p r e h =
-        let z = lists-refused t k o b place more (valueLists (listedNodes t k o) b) n p h in
-        rw (give-15 (z .0)) (ap saidOf e ∙ z .1)
+    pub gives-15 : (n p : ℕ) → ValuesRead t k o b place more (valueLists (listedNodes t k o) b) (Refused n p) → giveOf t k o fires m b ≡ refused n p
+    gives-15 n p h = let z = lists-refused t k o b place more (valueLists (listedNodes t k o) b) n p h in rw (z .1, z .2) (give-15 (z .0))
 
     module _ (h : ValuesRead t k o b place more (valueLists (listedNodes t k o) b) Good) where
       abbrev read : (vss : List (List ℕ)) × (valueLists (listedNodes t k o) b ≡ some vss)
@@ -87,23 +83,18 @@ module _ (t : List ℕ) (k o : ℕ) (fires : ℕ → Bool) (m : Marking) (b : Li
       unfolding roomIn given
       stocks-say e = rw e
 
-      pub gives-16-stocks : (r : GiveAnswer) → r .answer ≡ Refused 16 0 → all (λ i. leb (held i) (upper t i)) (below (nodes t)) ≡ false
-          → Gives t old b (giveOf t k o fires m b) r
-      gives-16-stocks r a e = rw (give-16 (read .0) (read .1) (stocks-say e)) (ap saidOf a)
+      pub gives-16-stocks : all (λ i. leb (held i) (upper t i)) (below (nodes t)) ≡ false → giveOf t k o fires m b ≡ refused 16 0
+      gives-16-stocks e = give-16 (read .0) (read .1) (stocks-say e)
 
       module _ (fit : all (λ i. leb (held i) (upper t i)) (below (nodes t)) ≡ true) where
         counts-say : (c : Bool) → c ≡ all (λ e. leb (gained t fires (m .tokens) e) 255) (below (edges t)) → roomIn t (then-held (read .0)) ≡ c
         unfolding roomIn given
         counts-say c e = rw (fit, e)
 
-        pub gives-16-counts : (r : GiveAnswer) → r .answer ≡ Refused 16 0 → (tokens : List ℕ) → Gained t (gained t fires (m .tokens)) tokens false
-            → Gives t old b (giveOf t k o fires m b) r
-        gives-16-counts r a tokens w = rw (give-16 (read .0) (read .1) (counts-say false (w .0))) (ap saidOf a)
+        pub gives-16-counts : (tokens : List ℕ) → Gained t (gained t fires (m .tokens)) tokens false → giveOf t k o fires m b ≡ refused 16 0
+        gives-16-counts tokens w = give-16 (read .0) (read .1) (counts-say false (w .0))
 
         module _ (good-t : GoodTable t limits) where
-          abbrev now-held : List ℕ → Held
-          now-held tokens = record { from = x .from; kept = x .kept; place = place; more = more; runs = x .runs; tokens = tokens }
-
           stock-now : (i : ℕ) → i < nodes t → isObjectNode (kind t i) ≡ true
               → StockHeld (m .stock i ++ listFor i (listedNodes t k o) (read .0)) old b (at (x .from) i) (at (x .kept) i) (at place i) (at more i)
           stock-now i l s =
@@ -123,23 +114,13 @@ module _ (t : List ℕ) (k o : ℕ) (fires : ℕ → Bool) (m : Marking) (b : Li
                 };
               }
 
-          given-held : (tokens : List ℕ) → CountsAre t (gained t fires (m .tokens)) tokens → MarkingHeld t (then-held (read .0)) old b (now-held tokens)
+          given-held : (tokens : List ℕ) → CountsAre t (gained t fires (m .tokens)) tokens → MarkingHeld t (then-held (read .0)) old b (givenTo x place more tokens)
           unfolding given
           given-held tokens c = record { stocks = stock-now; running = g .held .running; counts = c }
 
           pub gives-all : (tokens : List ℕ) → Gained t (gained t fires (m .tokens)) tokens true
-              → Gives t old b (giveOf t k o fires m b) (record { answer = Good; held = now-held tokens })
-          gives-all tokens w = rw (give-all (read .0) (read .1) (counts-say true (w .0))) (refl, given-held tokens (w .1 refl))
-
--- ---- the answer taken apart
-module _ (t old extra : List ℕ) (r : GiveAnswer) where
-  pub gives-refused : (a : Answer Marking) (n p : ℕ) → r .answer ≡ Refused n p → Gives t old extra a r → a ≡ refused n p
-  gives-refused (refused k q) n p e h = let z = ap saidOf (sym e) ∙ h in cc z
-  gives-refused (good m) n p e h = no-good (ap saidOf (sym e) ∙ h .0)
-
-  pub gives-good : (a : Answer Marking) → r .answer ≡ Good → Gives t old extra a r → (m : Marking) × (a ≡ good m) × MarkingHeld t m old extra (r .held)
-  gives-good (refused k q) e h = no-good (sym (ap saidOf (sym e) ∙ h))
-  gives-good (good m) e h = (m, refl, h .1)
+              → (m′ : Marking) × (giveOf t k o fires m b ≡ good m′) × MarkingHeld t m′ old b (givenTo x place more tokens)
+          gives-all tokens w = (then-held (read .0), give-all (read .0) (read .1) (counts-say true (w .0)), given-held tokens (w .1 refl))
 
 -- what is given changes no state
 pub give-state : (t : List ℕ) (k o : ℕ) (fires : ℕ → Bool) (m : Marking) (b : List ℕ) (m′ : Marking) → giveOf t k o fires m b ≡ good m′ → m′ .ended ≡ m .ended

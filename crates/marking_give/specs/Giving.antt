@@ -5,16 +5,15 @@ use mathlib.Core.Bool.{Bool, true, false, _&&_, cond}
 use mathlib.Core.List.{List, []}
 use lib.Dec.{leb, eqb}
 use Rattle.paper.specs.Lists.{at, all, below}
-use Rattle.paper.specs.Answers.{Answer, refused, good, _>>=_, need, known}
+use Rattle.paper.specs.Answers.{Answer, good, _>>=_, need, known}
 use Rattle.paper.specs.Table.{nodes, edges, kind, source, isObjectNode}
 use Rattle.paper.specs.Marking.{Marking, hasStock, hasTokens, counted}
 use Rattle.paper.specs.Operations.{valueLists, given, roomIn}
-use Rattle.marking.specs.Values.{isListed, listedNodes, saidOf}
+use Rattle.marking.specs.Values.{isListed, listedNodes}
 use Rattle.marking_held.specs.declared.Held.{Held}
 use Rattle.marking_held.specs.MarkingHeld.{MarkingHeld}
 use Rattle.marking_give.specs.declared.Firing.{Firing}
 use Rattle.marking_give.specs.declared.Firing.the-variants.{Kind, Node}
-use Rattle.marking_give.specs.declared.GiveAnswer.{GiveAnswer}
 
 -- the nodes that hand a token to each edge with a count that leaves them
 abbrev pub firesAs : List ℕ → Firing → ℕ → Bool
@@ -56,7 +55,6 @@ pub record Givable (t : List ℕ) (k o : ℕ) (m : Marking) (old : List ℕ) (x 
   pub no-count : (e : ℕ) → e < edges t → hasTokens t e ≡ false → m .tokens e ≡ 0
   pub for-stocks : (i : ℕ) → isListed t k o i ≡ true → isObjectNode (kind t i) ≡ true
 
--- what is said and held then
-abbrev pub Gives : List ℕ → List ℕ → List ℕ → Answer Marking → GiveAnswer → Type 0
-Gives t old extra (refused n p) r = saidOf (r .answer) ≡ refused n p
-Gives t old extra (good m) r = (saidOf (r .answer) ≡ good tt) × MarkingHeld t m old extra (r .held)
+-- what is held of x, with the values that come and the counts then
+abbrev pub givenTo : Held → List ℕ → List ℕ → List ℕ → Held
+givenTo x place more tokens = record { from = x .from; kept = x .kept; place = place; more = more; runs = x .runs; tokens = tokens }

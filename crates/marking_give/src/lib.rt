@@ -1,24 +1,18 @@
-// Rows 15 and 16, for start and finish alike: value lists appended to nodes, and tokens from the nodes that fire. What is held is handed over and back (`Givable`,
-// `Gives`). Functions that read a table's fields require that its bytes were read as a table.
-use marking::ValuesAnswer;
+// Row 16, for start and finish alike: whether values that are appended to nodes fit, and tokens from the nodes that fire.
+// Functions that read a table's fields require that its bytes were read as a table.
 use marking::has_count;
-use marking::read_values;
-use marking_held::Held;
 use table::Table;
 ghost use mathlib.Core.Path.{_≡_};
 ghost use mathlib.Core.Bool.{_&&_};
-ghost use mathlib.Core.List.{List};
 ghost use Prim.Native.Nat.{ℕ, _≤_, _<_};
 ghost use lib.Dec.{leb};
 ghost use lib.ListN.{length};
 ghost use Rattle.paper.specs.Lists.{all, below};
 ghost use Rattle.paper.specs.Answers.{good};
 ghost use Rattle.paper.specs.Table.{nodes, source, upper};
-ghost use Rattle.paper.specs.Marking.{Marking, hasTokens};
+ghost use Rattle.paper.specs.Marking.{hasTokens};
 ghost use Rattle.table.specs.Reading.{Spans, tableRead};
-ghost use Rattle.marking.specs.declared.values.ValuesAnswer.the-variants.{Refused};
-ghost use Rattle.marking_held.specs.MarkingHeld.{HeldLengths};
-ghost use Rattle.marking_give.specs.Giving.{firesAs, gained, Amounts, CountsHeld, Gained, giveOf, Givable, Gives};
+ghost use Rattle.marking_give.specs.Giving.{firesAs, gained, Amounts, CountsHeld, Gained};
 
 // Which nodes have a list of values: those of a kind that belong to an owner.
 pub struct Listing {
@@ -32,14 +26,8 @@ pub enum Firing {
     Node(usize),
 }
 
-// What giving answers, and what is held then.
-pub struct GiveAnswer {
-    pub answer: ValuesAnswer,
-    pub held: Held,
-}
-
 // Whether every stock fits its upper, with the values that are to be appended.
-fn stocks_fit(t: &[u8], table: Table, kept: &[u8], more: &[u8]) -> bool
+pub fn stocks_fit(t: &[u8], table: Table, kept: &[u8], more: &[u8]) -> bool
     requires { ⌜ Spans (now t) table × (table .nodes ≤ length (now kept)) × (table .nodes ≤ length (now more)) ⌝ }
     ensures { λ r. ⌜ ((held : ℕ → ℕ) → Amounts (now (t .entry)) held (now (kept .entry)) (now (more .entry))
         → r ≡ all (λ i. leb (held i) (upper (now (t .entry)) i)) (below (nodes (now (t .entry))))) ⌝ }
@@ -89,7 +77,7 @@ fn gains(t: &[u8], table: Table, firing: Firing, j: usize) -> bool
 }
 
 // A further token for every edge with a count whose source fires, unless one is at 255.
-fn gain(t: &[u8], table: Table, firing: Firing, tokens: &mut [u8]) -> bool
+pub fn gain(t: &[u8], table: Table, firing: Firing, tokens: &mut [u8]) -> bool
     requires { ⌜ (tableRead (now t) ≡ good table) × (table .edges ≤ length (now tokens)) ⌝ }
     ensures { λ r. ⌜ ((held : ℕ → ℕ) → CountsHeld (now (t .entry)) held (now (tokens .entry))
         → Gained (now (t .entry)) (gained (now (t .entry)) (firesAs (now (t .entry)) firing) held) (now (tokens .exit)) r) ⌝ }
@@ -106,64 +94,4 @@ fn gain(t: &[u8], table: Table, firing: Firing, tokens: &mut [u8]) -> bool
         j += 1;
     }
     true
-}
-
-// Nothing is given.
-fn refused(number: u8, place: u8, held: Held) -> GiveAnswer
-    ensures { λ r. ⌜ (r .answer ≡ Refused number place) × (r .held ≡ held) ⌝ }
-{
-    GiveAnswer {
-        answer: ValuesAnswer::Refused(number, place),
-        held: held,
-    }
-}
-
-// The lists of the nodes that have one, and a token from each node that fires. Nothing comes before.
-pub fn give(
-    t: &[u8],
-    table: Table,
-    listing: Listing,
-    values: &[u8],
-    firing: Firing,
-    held: Held,
-) -> GiveAnswer
-    requires { ⌜ (tableRead (now t) ≡ good table) × HeldLengths held ⌝ }
-    ensures { λ r. ⌜ HeldLengths (r .held) × ((m : Marking) (old : List ℕ) → Givable (now (t .entry)) (listing .kind) (listing .owner) m old held
-        → Gives (now (t .entry)) old (now (values .entry)) (giveOf (now (t .entry)) (listing .kind) (listing .owner) (firesAs (now (t .entry)) firing) m (now (values .entry))) r) ⌝ }
-{
-    let mut place = [0u16; Table::MOST_NODES];
-    let mut more = [0u8; Table::MOST_NODES];
-    if let ValuesAnswer::Refused(number, at) = read_values(
-        t,
-        table,
-        listing.kind,
-        listing.owner,
-        values,
-        &mut place,
-        &mut more,
-    ) {
-        return refused(number, at, held);
-    }
-    let kept = held.kept;
-    if !stocks_fit(t, table, &kept, &more) {
-        return refused(16, 0, held);
-    }
-    let mut tokens = held.tokens;
-    if !gain(t, table, firing, &mut tokens) {
-        return refused(16, 0, held);
-    }
-    let from = held.from;
-    let runs = held.runs;
-    let given = Held {
-        from: from,
-        kept: kept,
-        place: place,
-        more: more,
-        runs: runs,
-        tokens: tokens,
-    };
-    GiveAnswer {
-        answer: ValuesAnswer::Good,
-        held: given,
-    }
 }

@@ -6,7 +6,7 @@ use mathlib.Core.Bool.{Bool, true, false, not, _&&_, cond}
 use mathlib.Core.List.{List, [], _++_, append-nil}
 use mathlib.Core.Option.{Option, none, some}
 use lib.Dec.{eqb, ltb}
-use lib.ListN.{take, drop, set, replicate, length-set}
+use lib.ListN.{length, take, drop, set, replicate, length-set}
 use lib.Seq.{getD-set-same, getD-set-other}
 use borrow.Author.Tests.{eqb-true, eqb-false, lt-ltb, le-ltb}
 use Rattle.paper.specs.Lists.{at, oneIf}
@@ -21,11 +21,10 @@ use Rattle.paper.proofs.OneMarking.{read-is-good}
 use Rattle.table.proofs.Reading.{blank as zeros}
 use Rattle.marking.specs.declared.reading.MarkingAnswer.{MarkingAnswer}
 use Rattle.marking.specs.declared.reading.MarkingAnswer.the-variants.{Live, Ended, Refused}
-use Rattle.marking.specs.Reading.{said, MarkingRead}
+use Rattle.marking.specs.Reading.{said, NodesRead, EdgesRead, MarkingRead}
 use Rattle.marking.specs.Values.{isListed, ValuesNoted}
 use Rattle.marking_held.specs.declared.Held.{Held}
-use Rattle.marking_held.specs.declared.HeldAnswer.{HeldAnswer}
-use Rattle.marking_held.specs.MarkingHeld.{StockHeld, MarkingHeld, HeldInside, HeldLengths, NothingHeld, LiveMarking, ReadUp}
+use Rattle.marking_held.specs.MarkingHeld.{StockHeld, MarkingHeld, HeldInside, HeldLengths, NothingHeld, LiveMarking, noNodes, noEdges, heldOf}
 use Rattle.marking_held.proofs.HoldingLaws.{some-emptied}
 
 -- ---- what a marking that was read holds
@@ -36,55 +35,52 @@ stock-kept b vs p n q k v l eq ek = rw (eq, ek) (record {
   inside = record { few = omega arith; in-old = v .inside; in-extra = omega arith };
 })
 
--- nothing for each node, and for each edge
-abbrev pub noNodes : List ℕ
-noNodes = replicate (limits .mostNodes) 0
+pub lengths-up : (from kept tokens : List ℕ) → length from ≡ limits .mostNodes → length kept ≡ limits .mostNodes → length tokens ≡ limits .mostEdges
+    → HeldLengths (heldOf from kept tokens)
+lengths-up from kept tokens f k o = record { from-long = f; kept-long = k; place-long = refl; more-long = refl; runs-long = k; tokens-long = o }
 
-abbrev pub noEdges : List ℕ
-noEdges = replicate (limits .mostEdges) 0
-
--- what was read, of which nothing comes
-abbrev pub heldOf : List ℕ → List ℕ → List ℕ → Held
-heldOf f k o = record { from = f; kept = k; place = noNodes; more = noNodes; runs = k; tokens = o }
-
-pub held-as-read : (t b from kept tokens : List ℕ) → GoodTable t limits → (o : Option Marking) (r : MarkingAnswer) → MarkingRead t b from kept tokens o r
-    → ReadUp t b o (record { answer = r; held = heldOf from kept tokens })
-held-as-read t b from kept tokens g none r h = h
-held-as-read t b from kept tokens g (some m) r h = (
-  h .0,
-  record {
+module _ (t b from kept tokens : List ℕ) where
+  held-as-read : GoodTable t limits → (m : Marking) → NodesRead t m b from kept (nodes t) → EdgesRead t m tokens (edges t)
+      → MarkingHeld t m b [] (heldOf from kept tokens)
+  held-as-read g m ns es = record {
     stocks = λ i l o.
-        let n = h .1 .node i l in
+        let n = ns .node i l in
         stock-kept b (m .stock i) (at from i) (at kept i) (at noNodes i) (at noNodes i) (n .stock o)
         (omega (arith, n .stock o .many, n .room o, upper-fits (g .node i l))) (zeros (limits .mostNodes) i) (zeros (limits .mostNodes) i);
-    running = λ i l a. h .1 .node i l .runs a;
-    counts = λ j l c. h .2 .edge j l .count c;
-  },
-)
+    running = λ i l a. ns .node i l .runs a;
+    counts = λ j l c. es .edge j l .count c;
+  }
 
--- ---- the answer taken apart
-module _ (t b : List ℕ) (r : HeldAnswer) where
-  by-refused : (o : Option Marking) (n p : ℕ) → r .answer ≡ Refused n p → ReadUp t b o r → (o ≡ none) × (n ≡ 5) × (p ≡ 0)
-  by-refused none n p e h = let z = ap said (sym e) ∙ h in (refl, cc z, cc z)
-  by-refused (some m) n p e h = no-good (ap said (sym e) ∙ h .0)
+  -- ---- the answer taken apart
+  module _ (r : MarkingAnswer) where
+    by-refused : (o : Option Marking) (n p : ℕ) → r ≡ Refused n p → MarkingRead t b from kept tokens o r → (o ≡ none) × (n ≡ 5) × (p ≡ 0)
+    by-refused none n p e h = let z = ap said (sym e) ∙ h in (refl, cc z, cc z)
+    by-refused (some m) n p e h = no-good (ap said (sym e) ∙ h .0)
 
-  by-ended : (o : Option Marking) → r .answer ≡ Ended → ReadUp t b o r → (m : Marking) × (o ≡ some m) × (m .ended ≡ true)
-  by-ended none e h = no-good (sym (ap said (sym e) ∙ h))
-  by-ended (some m) e h = (m, refl, sym (same-good (ap said (sym e) ∙ h .0)))
+    by-ended : (o : Option Marking) → r ≡ Ended → MarkingRead t b from kept tokens o r → (m : Marking) × (o ≡ some m) × (m .ended ≡ true)
+    by-ended none e h = no-good (sym (ap said (sym e) ∙ h))
+    by-ended (some m) e h = (m, refl, sym (same-good (ap said (sym e) ∙ h .0)))
 
-  by-live : HeldLengths (r .held) → (o : Option Marking) → marking t b ≡ o → r .answer ≡ Live → ReadUp t b o r → LiveMarking t b (r .held)
-  by-live n none q e h = no-good (sym (ap said (sym e) ∙ h))
-  by-live n (some m) q e h = record { current = m; is-read = q; live = sym (same-good (ap said (sym e) ∙ h .0)); held = h .1; lengths = n }
+    by-live : GoodTable t limits → HeldLengths (heldOf from kept tokens) → (o : Option Marking) → marking t b ≡ o → r ≡ Live → MarkingRead t b from kept tokens o r
+        → LiveMarking t b (heldOf from kept tokens)
+    by-live g n none q e h = no-good (sym (ap said (sym e) ∙ h))
+    by-live g n (some m) q e h = record {
+      current = m;
+      is-read = q;
+      live = sym (same-good (ap said (sym e) ∙ h .0));
+      held = held-as-read g m (h .1) (h .2);
+      lengths = n;
+    }
 
-  module _ (h : ReadUp t b (marking t b) r) where
-    pub refused-up : (n p : ℕ) → r .answer ≡ Refused n p → (marking t b ≡ none) × (n ≡ 5) × (p ≡ 0)
-    refused-up n p e = by-refused (marking t b) n p e h
+    module _ (h : MarkingRead t b from kept tokens (marking t b) r) where
+      pub refused-up : (n p : ℕ) → r ≡ Refused n p → (marking t b ≡ none) × (n ≡ 5) × (p ≡ 0)
+      refused-up n p e = by-refused (marking t b) n p e h
 
-    pub ended-up : r .answer ≡ Ended → (m : Marking) × (marking t b ≡ some m) × (m .ended ≡ true)
-    ended-up e = by-ended (marking t b) e h
+      pub ended-up : r ≡ Ended → (m : Marking) × (marking t b ≡ some m) × (m .ended ≡ true)
+      ended-up e = by-ended (marking t b) e h
 
-    pub live-up : HeldLengths (r .held) → r .answer ≡ Live → LiveMarking t b (r .held)
-    live-up n e = by-live n (marking t b) refl e h
+      pub live-up : GoodTable t limits → HeldLengths (heldOf from kept tokens) → r ≡ Live → LiveMarking t b (heldOf from kept tokens)
+      live-up g n e = by-live g n (marking t b) refl e h
 
 pub live-is-good : (t b : List ℕ) (x : Held) (l : LiveMarking t b x) → Bytes b → Good t (l .current)
 live-is-good t b x l u = read-is-good t b (l .current) u (l .is-read) .0

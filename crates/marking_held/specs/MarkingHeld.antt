@@ -3,18 +3,15 @@ use Prim.Native.Nat.{ℕ, _+_, _*_, _≤_, _<_}
 use mathlib.Core.Path.{_≡_}
 use mathlib.Core.Bool.{true, false}
 use mathlib.Core.List.{List, [], _++_}
-use mathlib.Core.Option.{Option, none, some}
-use lib.ListN.{length, take, drop}
+use mathlib.Core.Option.{some}
+use lib.ListN.{length, take, drop, replicate}
 use Rattle.paper.specs.Lists.{at, oneIf, gather}
 use Rattle.paper.specs.Bytes.{four}
 use Rattle.paper.specs.Limits.{limits}
-use Rattle.paper.specs.Answers.{refused, good}
 use Rattle.paper.specs.Table.{nodes, edges, kind, isObjectNode, isAction}
 use Rattle.paper.specs.Marking.{Marking, counted, marking}
 use Rattle.table.specs.Reading.{Blank}
-use Rattle.marking.specs.Reading.{said}
 use Rattle.marking_held.specs.declared.Held.{Held}
-use Rattle.marking_held.specs.declared.HeldAnswer.{HeldAnswer}
 
 -- `kept` values stand in `old` from place `from` on, `more` values in `extra` from `place` on, and a byte says how many they are
 pub record StockInside (old extra : List ℕ) (from kept place more : ℕ) : Type 0 where
@@ -67,8 +64,14 @@ pub record LiveMarking (t b : List ℕ) (x : Held) : Type 0 where
   pub held : MarkingHeld t current b [] x
   pub lengths : HeldLengths x
 
--- ---- reading
--- row 5, and what a marking that was read holds
-abbrev pub ReadUp : List ℕ → List ℕ → Option Marking → HeldAnswer → Type 0
-ReadUp t b none r = said (r .answer) ≡ refused 5 0
-ReadUp t b (some m) r = (said (r .answer) ≡ good (m .ended)) × MarkingHeld t m b [] (r .held)
+-- nothing for each node, and for each edge
+abbrev pub noNodes : List ℕ
+noNodes = replicate (limits .mostNodes) 0
+
+abbrev pub noEdges : List ℕ
+noEdges = replicate (limits .mostEdges) 0
+
+-- what was read of a marking, of which nothing comes: the places of stocks, the first bytes of the nodes' fields, which are a stock's count or a running byte,
+-- and the counts
+abbrev pub heldOf : List ℕ → List ℕ → List ℕ → Held
+heldOf f k o = record { from = f; kept = k; place = noNodes; more = noNodes; runs = k; tokens = o }

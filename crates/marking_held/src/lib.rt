@@ -1,16 +1,14 @@
 // A marking while it changes: which values of each stock stay and which come, what runs, and the counts (`Held`). start begins with nothing held, finish
 // takes up what was read. Functions that read a table's fields require that its bytes were read as a table.
-use marking::MarkingAnswer;
 use marking::is_listed;
 use table::Table;
 ghost use mathlib.Core.Path.{_≡_};
 ghost use mathlib.Core.List.{List};
 ghost use Prim.Native.Nat.{ℕ, _<_};
-ghost use Rattle.paper.specs.Answers.{good};
-ghost use Rattle.paper.specs.Marking.{Marking, marking};
+ghost use Rattle.paper.specs.Marking.{Marking};
 ghost use Rattle.paper.specs.Operations.{idled};
-ghost use Rattle.table.specs.Reading.{Spans, tableRead};
-ghost use Rattle.marking_held.specs.MarkingHeld.{HeldLengths, NothingHeld, MarkingHeld, ReadUp};
+ghost use Rattle.table.specs.Reading.{Spans};
+ghost use Rattle.marking_held.specs.MarkingHeld.{HeldLengths, NothingHeld, MarkingHeld, heldOf};
 
 // A stock is two runs: `kept` values that stay, in the old bytes from place `from` on, then `more` values that come, in other bytes from `place` on.
 pub struct Held {
@@ -20,12 +18,6 @@ pub struct Held {
     pub more: [u8; Table::MOST_NODES],
     pub runs: [u8; Table::MOST_NODES],
     pub tokens: [u8; Table::MOST_EDGES],
-}
-
-// What reading a marking answers, and what is held then.
-pub struct HeldAnswer {
-    pub answer: MarkingAnswer,
-    pub held: Held,
 }
 
 // Nothing is held.
@@ -42,25 +34,21 @@ pub fn nothing() -> Held
     }
 }
 
-// A marking that is read, and held if it is one of the table. A stock's count and a running byte stand at the same place, so that what is kept says both.
-pub fn read_up(t: &[u8], table: Table, b: &[u8]) -> HeldAnswer
-    requires { ⌜ tableRead (now t) ≡ good table ⌝ }
-    ensures { λ r. ⌜ HeldLengths (r .held) × ReadUp (now (t .entry)) (now (b .entry)) (marking (now (t .entry)) (now (b .entry))) r ⌝ }
+// What was read of a marking is held, and nothing comes. A stock's count and a running byte stand at the same place, so that what is kept says both.
+pub fn take_up(
+    from: [u16; Table::MOST_NODES],
+    kept: [u8; Table::MOST_NODES],
+    tokens: [u8; Table::MOST_EDGES],
+) -> Held
+    ensures { λ r. ⌜ r ≡ heldOf from kept tokens ⌝ }
 {
-    let mut from = [0u16; Table::MOST_NODES];
-    let mut kept = [0u8; Table::MOST_NODES];
-    let mut tokens = [0u8; Table::MOST_EDGES];
-    let answer = marking::read(t, table, b, &mut from, &mut kept, &mut tokens);
-    HeldAnswer {
-        answer: answer,
-        held: Held {
-            from: from,
-            kept: kept,
-            place: [0; Table::MOST_NODES],
-            more: [0; Table::MOST_NODES],
-            runs: kept,
-            tokens: tokens,
-        },
+    Held {
+        from: from,
+        kept: kept,
+        place: [0; Table::MOST_NODES],
+        more: [0; Table::MOST_NODES],
+        runs: kept,
+        tokens: tokens,
     }
 }
 

@@ -22,7 +22,7 @@ use Rattle.marking.specs.Reading.{edgeFields}
 use Rattle.marking_held.specs.declared.Held.{Held}
 use Rattle.marking_held.specs.MarkingHeld.{MarkingHeld, HeldInside}
 use Rattle.marking_write.specs.declared.NodeHeld.{NodeHeld}
-use Rattle.marking_write.specs.Writing.{nodeAt, NodeInside, sizeAs, nodeSize, edgeSize, sizeOf, stockBytes, fieldBytes, nodeBytes, edgeBytes}
+use Rattle.marking_write.specs.Writing.{nodeHeldAt, NodeInside, sizeAs, nodeSize, edgeSize, sizeOf, stockBytes, fieldBytes, nodeBytes, edgeBytes}
 use Rattle.marking.proofs.Laws.{layout-is}
 
 -- ---- a stock
@@ -100,16 +100,16 @@ module _ (k : ℕ) (old extra : List ℕ) (h : NodeHeld) where
 
 pub length-node : (t old extra : List ℕ) (x : Held) → HeldInside t old extra x → (i : ℕ) → i < nodes t
     → length (nodeBytes t old extra x i) ≡ nodeSize t (x .kept) (x .more) i
-length-node t old extra x s i l = length-field (kind t i) old extra (nodeAt x i) (s .stock i l)
+length-node t old extra x s i l = length-field (kind t i) old extra (nodeHeldAt x i) (s .stock i l)
 
 -- node i is written next, as what was read of it says
 module _ (t old extra : List ℕ) (x : Held) (s : HeldInside t old extra x) (i : ℕ) (l : i < nodes t) {k : ℕ} (e : k ≡ kind t i) where
-  pub node-inside : isObjectNode k ≡ true → NodeInside old extra (nodeAt x i)
+  pub node-inside : isObjectNode k ≡ true → NodeInside old extra (nodeHeldAt x i)
   node-inside o = s .stock i l (ap isObjectNode (sym e) ∙ o)
 
   pub node-run : (d : List ℕ) {out after : List ℕ} {to : ℕ} → to ≡ 4 + total (nodeSize t (x .kept) (x .more)) i
       → out ≡ sets d 4 (gather (nodeBytes t old extra x) (below i))
-      → after ≡ sets out to (fieldBytes k old extra (nodeAt x i)) → after ≡ sets d 4 (gather (nodeBytes t old extra x) (below (i + 1)))
+      → after ≡ sets out to (fieldBytes k old extra (nodeHeldAt x i)) → after ≡ sets d 4 (gather (nodeBytes t old extra x) (below (i + 1)))
   node-run d {to = to} q o a =
       a ∙ rw (e, o) (run-more (nodeBytes t old extra x) (nodeSize t (x .kept) (x .more)) d 4 to i (λ n h. length-node t old extra x s n (omega arith)) q)
 
@@ -165,7 +165,7 @@ module _ {t : List ℕ} {m : Marking} {old extra : List ℕ} {x : Held} (b : Mar
   node-is i l = by (isObjectNode (kind t i)) (isAction (kind t i)) refl refl
     where
       by : (o a : Bool) → isObjectNode (kind t i) ≡ o → isAction (kind t i) ≡ a
-          → gather (written m) (cond o (stockOf i ∷ []) (cond a (runsOf i ∷ []) [])) ≡ cond o (stockBytes old extra (nodeAt x i)) (cond a (at (x .runs) i ∷ []) [])
+          → gather (written m) (cond o (stockOf i ∷ []) (cond a (runsOf i ∷ []) [])) ≡ cond o (stockBytes old extra (nodeHeldAt x i)) (cond a (at (x .runs) i ∷ []) [])
       by true a e f = let s = b .stocks i l e in append-nil (listed (m .stock i)) ∙ ap₂ (λ (n : ℕ) (l : List ℕ). n ∷ l) (s .many) (s .stand)
       by false true e f = ap (λ (n : ℕ). n ∷ []) (sym (b .running i l f))
       by false false e f = refl
@@ -185,7 +185,7 @@ module _ {t : List ℕ} {m : Marking} {old extra : List ℕ} {x : Held} (b : Mar
   edgePart = gather (edgeBytes t (x .tokens)) (below (edges t))
 
   node-length : length nodePart ≡ total (nodeSize t (x .kept) (x .more)) (nodes t)
-  node-length = length-total _ _ (nodes t) (λ i l. length-field (kind t i) old extra (nodeAt x i) (λ o. b .stocks i l o .inside))
+  node-length = length-total _ _ (nodes t) (λ i l. length-field (kind t i) old extra (nodeHeldAt x i) (λ o. b .stocks i l o .inside))
 
   parts-are : gather (written m) (layout t) ≡ nodePart ++ edgePart
   parts-are =

@@ -14,8 +14,8 @@ use Rattle.marking_held.specs.MarkingHeld.{StockInside}
 use Rattle.marking_write.specs.declared.NodeHeld.{NodeHeld}
 
 -- what is held of node i
-abbrev pub nodeAt : Held → ℕ → NodeHeld
-nodeAt x i = record { from = at (x .from) i; kept = at (x .kept) i; place = at (x .place) i; more = at (x .more) i; runs = at (x .runs) i }
+abbrev pub nodeHeldAt : Held → ℕ → NodeHeld
+nodeHeldAt x i = record { from = at (x .from) i; kept = at (x .kept) i; place = at (x .place) i; more = at (x .more) i; runs = at (x .runs) i }
 
 abbrev pub NodeInside : List ℕ → List ℕ → NodeHeld → Type 0
 NodeInside old extra h = StockInside old extra (h .from) (h .kept) (h .place) (h .more)
@@ -57,7 +57,7 @@ unfoldable pub fieldBytes : ℕ → List ℕ → List ℕ → NodeHeld → List 
 fieldBytes k old extra h = cond (isObjectNode k) (stockBytes old extra h) (cond (isAction k) (h .runs ∷ []) [])
 
 abbrev pub nodeBytes : List ℕ → List ℕ → List ℕ → Held → ℕ → List ℕ
-nodeBytes t old extra x i = fieldBytes (kind t i) old extra (nodeAt x i)
+nodeBytes t old extra x i = fieldBytes (kind t i) old extra (nodeHeldAt x i)
 
 unfoldable pub edgeBytes : List ℕ → List ℕ → ℕ → List ℕ
 edgeBytes t tokens j = cond (counted t j) (at tokens j ∷ []) []

@@ -1,25 +1,22 @@
 -- What the rows of an offer list say: row i is that of tree i. The rows stand in one lent slice, 16 cells each, and at the end in the arrays of
 -- the struct Offers; both are seen as `Rows`. Assumes nothing.
 use mathlib.Core.Path.{_≡_}
-use Prim.Native.Nat.{ℕ, _+_, _*_, _-_, _^_, _≤_, _<_}
+use Prim.Native.Nat.{ℕ, _+_, _*_, _^_, _≤_, _<_}
 use mathlib.Core.Bool.{Bool, true, false, _&&_, cond}
 use mathlib.Core.List.{List, [], _∷_, _++_}
 use mathlib.Core.Option.{Option, none, some}
 use lib.Dec.{eqb, leb}
 use lib.ListN.{length, getD}
-use Rattle.paper.specs.Lists.{all, each, gather, keep, within, _⇒_}
+use Rattle.paper.specs.Lists.{all, each}
 use Rattle.paper.specs.Limits.{limits}
-use Rattle.paper.specs.Table.{edges, source, target, kind, into, isControlNode}
+use Rattle.paper.specs.Table.{source, kind}
 use Rattle.paper.specs.Offers.{Offer, first, over, with, lastEdge, value, paths, makers, origins}
 use Rattle.paper.proofs.Members.{In, Distinct}
 use Rattle.paper.proofs.Competing.{StockFirst}
-use Rattle.table.specs.Incoming.{ListFrom, Forward}
 use Rattle.words.specs.Clash.{hit}
 use Rattle.offers.specs.Sets.{nth, Means, Foes, Marks}
-use Rattle.offers.specs.declared.Gate.{Gate}
 use Rattle.offers.specs.declared.Onto.{Onto}
 use Rattle.offers.specs.declared.Worth.{Worth}
-use Rattle.offers.specs.declared.Start.{Start}
 
 -- ---- rows
 -- one row: last edge, the node it leaves, whether there is a value and which, the number of paths, and three words
@@ -60,8 +57,8 @@ rowsIn m c = record {
 
 -- ---- paths
 -- a number of paths as far as there is room for them
-abbrev pub upToEight : ℕ → ℕ
-upToEight x = cond (leb x 8) x 8
+abbrev pub upToMost : ℕ → ℕ
+upToMost x = cond (leb x (limits .mostPaths)) x (limits .mostPaths)
 
 -- path k of row i is the path p
 pub data Route (r : Rows) : ℕ → ℕ → List ℕ → Type 0 where
@@ -79,12 +76,17 @@ pub record Lead (r : Rows) (k : ℕ) (p : List ℕ) : Type 0 where
 
 -- the paths of the row to come go on from the paths qs, as far as there is room for them
 abbrev pub Leads : Rows → List (List ℕ) → Type 0
-Leads r qs = (k : ℕ) → k < length qs → k < 8 → Lead r k (getD qs k [])
+Leads r qs = (k : ℕ) → k < length qs → k < limits .mostPaths → Lead r k (getD qs k [])
 
 -- the row to come begins a path of its own, or goes on from those of what it was made of
 pub data Trail (r : Rows) (e : ℕ) : List (List ℕ) → Type 0 where
   alone : r .before (r .count) 0 ≡ 0 → Trail r e ((e ∷ []) ∷ [])
   after : (qs : List (List ℕ)) → Leads r qs → Trail r e (each (λ q. q ++ (e ∷ [])) qs)
+
+-- n paths of row j, in the row to come from its path `at` on, as far as there is room for them
+pub record Led (m m' : List ℕ) (c at j n : ℕ) : Type 0 where
+  pub old : (x : ℕ) → x < 16 * c + 8 + at → getD m' x 0 ≡ getD m x 0
+  pub new : (k : ℕ) → k < n → at + k < 8 → getD m' (16 * c + 8 + (at + k)) 0 ≡ 8 * j + k + 1
 
 -- ---- a row and its tree
 abbrev pub valueOf : ℕ → ℕ → Option ℕ
@@ -94,15 +96,6 @@ unfoldable pub isOffer : Offer → Bool
 isOffer (first e v) = true
 isOffer (over o e) = true
 isOffer (with o p) = false
-
--- whether a gate lets an offer with this value over its edge
-abbrev pub admitted : Gate → Option ℕ → Bool
-admitted y none = y .opened
-admitted y (some v) = y .opened && (y .listed ⇒ within (y .low) (y .high) v)
-
--- those of xs that are let over an edge, where `lets v` says whether an offer with value v is
-abbrev pub letOver : (Option ℕ → Bool) → List Offer → List Offer
-letOver lets xs = keep (λ x. lets (value x)) xs
 
 -- the numbers of a row fit the arrays
 pub record Narrow (r : Entry) : Type 0 where
@@ -139,7 +132,7 @@ pub record Pushed (r s : Rows) (x : Entry) : Type 0 where
   pub more : s .count ≡ r .count + 1
   pub old : (i : ℕ) → i < r .count → s .entry i ≡ r .entry i
   pub new : s .entry (r .count) ≡ x
-  pub same : (i k : ℕ) → i ≤ r .count → k < 8 → s .before i k ≡ r .before i k
+  pub same : (i k : ℕ) → i ≤ r .count → k < limits .mostPaths → s .before i k ≡ r .before i k
 
 -- d has those of the first c rows that have no value
 abbrev pub Controls : Rows → ℕ → ℕ → Type 0
@@ -172,18 +165,10 @@ pub record Ready (t : List ℕ) (r : Rows) (ts : List Offer) (x : Offer) (o : On
   pub narrow : Narrow (entryOf (o .edge) (o .node) (u .has) (u .value) p a m f)
   pub trail : Trail r (o .edge) (paths x)
 
+-- ---- sizes and parts of a list
 -- the first two sizes of row 8
 unfoldable pub fine : List Offer → Bool
 fine us = leb (length us) (limits .mostOffers) && all (λ x. leb (length (paths x)) (limits .mostPaths)) us
-
--- the list us is held, or is too long
-pub record Outcome (t : List ℕ) (r : Rows) (ok : Bool) (us : List Offer) : Type 0 where
-  pub good : ok ≡ true → Holds t r us
-  pub bad : ok ≡ false → fine us ≡ false
-
--- ---- offers extended
-abbrev pub overs : ℕ → List Offer → List Offer
-overs e xs = each (λ x. over x e) xs
 
 -- xs stand in ts from a to b
 pub record Seg (ts : List Offer) (a b : ℕ) (xs : List Offer) : Type 0 where
@@ -193,60 +178,6 @@ pub record Seg (ts : List Offer) (a b : ℕ) (xs : List Offer) : Type 0 where
   pub from-a : length pre ≡ a
   pub to-b : a + length xs ≡ b
 
--- n paths of row j, in the row to come from its path `at` on, as far as there is room for them
-pub record Led (m m' : List ℕ) (c at j n : ℕ) : Type 0 where
-  pub old : (x : ℕ) → x < 16 * c + 8 + at → getD m' x 0 ≡ getD m x 0
-  pub new : (k : ℕ) → k < n → at + k < 8 → getD m' (16 * c + 8 + (at + k)) 0 ≡ 8 * j + k + 1
-
--- the node is that which the edge leaves, of its kind
-pub record Names (t : List ℕ) (o : Onto) : Type 0 where
-  pub node-is : o .node ≡ source t (o .edge)
-  pub kind-is : o .kind ≡ kind t (o .node)
-
--- the edge leaves a control node
-pub record LeavesControl (t : List ℕ) (o : Onto) : Type 0 where
-  pub names : Names t o
-  pub control : isControlNode (kind t (source t (o .edge))) ≡ true
-
--- of xs, in ts from a to b, those that are let over the edge are to be extended
-pub record Ext (t : List ℕ) (r : Rows) (ts xs : List Offer) (a b : ℕ) (o : Onto) (lets : Option ℕ → Bool) : Type 0 where
-  pub holds-ts : Holds t r ts
-  pub seg : Seg ts a b xs
-  pub distinct : Distinct (ts ++ overs (o .edge) (letOver lets xs))
-  pub leaves : LeavesControl t o
-
 -- every edge's part of a list of c offers
 abbrev pub Ranges : List ℕ → List ℕ → ℕ → Type 0
 Ranges a b c = (j : ℕ) → (getD a j 0 ≤ getD b j 0) × (getD b j 0 ≤ c)
-
--- c rows in the cells m can be added to, and a and b have every edge's part of them
-pub record Space (m a b : List ℕ) (c : ℕ) : Type 0 where
-  pub few : c ≤ limits .mostOffers
-  pub cells : rowCells ≤ length m
-  pub parts : Ranges a b c
-  pub lows : limits .mostEdges ≤ length a
-  pub highs : limits .mostEdges ≤ length b
-
--- the list of the edges into node s can be gone through
-pub record Feeds (first next : List ℕ) (s : ℕ) : Type 0 where
-  pub listed : s < length first
-  pub forward : Forward next
-  pub nexts : limits .mostEdges ≤ length next
-
--- of the offers on all edges into the node, those that are let over the edge are to be extended
-pub record Pass (t : List ℕ) (r : Rows) (ts : List Offer) (on : ℕ → List Offer) (first next a b : List ℕ) (o : Onto) (lets : Option ℕ → Bool) : Type 0 where
-  pub holds-ts : Holds t r ts
-  pub list : ListFrom next (getD first (o .node) 0) (into t (o .node))
-  pub segs : (j : ℕ) → j < edges t → target t j ≡ o .node → Seg ts (getD a j 0) (getD b j 0) (on j)
-  pub distinct : Distinct (ts ++ overs (o .edge) (letOver lets (gather on (into t (o .node)))))
-  pub leaves : LeavesControl t o
-
--- a first offer on e, as the caller has read it: 0 none, 1 a token, 2 the value v
-abbrev pub begunOn : ℕ → ℕ → ℕ → List Offer
-begunOn e c v = cond (eqb c 0) [] (first e (valueOf (c - 1) v) ∷ [])
-
--- it is to be put behind ts, if it is let over the edge
-pub record Begin (t : List ℕ) (r : Rows) (ts : List Offer) (o : Onto) (s : Start) (lets : Option ℕ → Bool) : Type 0 where
-  pub holds-ts : Holds t r ts
-  pub distinct : Distinct (ts ++ letOver lets (begunOn (o .edge) (s .code) (s .value)))
-  pub names : Names t o

@@ -10,7 +10,7 @@ use Rattle.paper.proofs.Tables.{source-no-chain}
 use Rattle.table.specs.declared.Table.{Table}
 use Rattle.table.specs.Reading.{tableRead}
 use Rattle.table.proofs.Reading.{read-good, read-spans}
-use Rattle.table_shape.specs.Chains.{Framed}
+use Rattle.table_ranks.specs.Chains.{Framed}
 
 module _ (t : List ℕ) {x : Table} (h : tableRead t ≡ good x) where
   pub good-framed : Framed t x

@@ -14,12 +14,13 @@ use Rattle.paper.specs.Offers.{Offer, parts, value, firsts, ways, handed, offer
 use Rattle.paper.proofs.Members.{In, Distinct}
 use Rattle.table.specs.declared.Table.{Table}
 use Rattle.table.specs.Incoming.{ListFrom, Forward, Incoming}
-use Rattle.table_shape.specs.Chains.{Framed}
+use Rattle.table_ranks.specs.Chains.{Framed}
 use Rattle.terms.specs.Terms.{Ties}
-use Rattle.offers.specs.Rows.{Rows, Holds, Seg, Names, Feeds, admitted, begunOn, fine}
-use Rattle.offers.specs.declared.Gate.{Gate}
+use Rattle.offers.specs.Rows.{Rows, Holds, Seg, fine}
+use Rattle.offers_over.specs.Over.{Names, Feeds, admitted, begunOn}
+use Rattle.offers_over.specs.declared.Gate.{Gate}
 use Rattle.offers.specs.declared.Onto.{Onto}
-use Rattle.offers.specs.declared.Start.{Start}
+use Rattle.offers_over.specs.declared.Start.{Start}
 
 -- what goes over an edge: any gate will do
 abbrev pub Gates : Type 0

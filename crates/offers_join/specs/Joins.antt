@@ -14,7 +14,8 @@ use Rattle.paper.proofs.Members.{In, Distinct}
 use Rattle.table.specs.Incoming.{ListFrom}
 use Rattle.offers_ahead.specs.Dead.{AheadRoom}
 use Rattle.offers.specs.Sets.{nth, Means, Foes}
-use Rattle.offers.specs.Rows.{rowCells, Rows, Holds, Leads, valueOf, letOver, overs, Seg, LeavesControl}
+use Rattle.offers.specs.Rows.{rowCells, Rows, Holds, Leads, valueOf, Seg}
+use Rattle.offers_over.specs.Over.{letOver, overs, LeavesControl}
 use Rattle.offers.specs.declared.Onto.{Onto}
 use Rattle.offers_join.specs.declared.Way.{Way}
 

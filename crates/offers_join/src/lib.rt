@@ -1,8 +1,6 @@
 // A join: the search for its ways, depth first with a look-ahead, each put at the end of the rows of offers.
 // Of the table it reads nothing but the lists of the edges into each node.
 use offers::FOES;
-use offers::Gate;
-use offers::Grown;
 use offers::HAS;
 use offers::MAKERS;
 use offers::MOST_OFFERS;
@@ -11,11 +9,13 @@ use offers::Onto;
 use offers::VALUE;
 use offers::WIDTH;
 use offers::Worth;
-use offers::admits;
 use offers::compete;
 use offers::grow;
 use offers::lead;
 use offers::paths_of;
+use offers_over::Gate;
+use offers_over::Grown;
+use offers_over::admits;
 use table::Table;
 use wire::wide;
 use words::bit_of;
@@ -33,7 +33,8 @@ ghost use Rattle.paper.proofs.Members.{In};
 ghost use Rattle.table.specs.Incoming.{ListFrom};
 ghost use Rattle.offers_ahead.specs.Dead.{Dead, AheadRoom};
 ghost use Rattle.offers.specs.Sets.{nth};
-ghost use Rattle.offers.specs.Rows.{rowCells, rowsIn, admitted, letOver, Holds, LeavesControl, Outcome, overs, Space, Feeds};
+ghost use Rattle.offers.specs.Rows.{rowCells, rowsIn, Holds};
+ghost use Rattle.offers_over.specs.Over.{admitted, letOver, LeavesControl, Outcome, overs, Space, Feeds};
 ghost use Rattle.offers_join.specs.Joins.{together, foundWays, Taken, Picked, RivalRow, Rivals, Span, SegmentWords, BarredRows, Within, Safe, Dfs, SegmentsOf, Bare, Meeting};
 ghost use Rattle.paper.specs.Limits.{limits};
 

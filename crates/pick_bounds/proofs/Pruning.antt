@@ -13,6 +13,7 @@ use Rattle.paper.proofs.Bools.{never, and-true, and-both, or-true, true-or-fals
 use Rattle.paper.proofs.Members.{any-in, in-below}
 use Rattle.paper.proofs.Lists.{all-below, below-all}
 use Rattle.paper.proofs.Digits.{has-zero}
+use Rattle.paper.specs.Limits.{limits}
 use Rattle.pick_bounds.specs.declared.Wanted.{Wanted}
 use Rattle.pick_bounds.specs.declared.Rule.{Rule}
 use Rattle.pick_bounds.specs.declared.Bounds.{Bounds}
@@ -172,7 +173,7 @@ module _ (net : List ℕ) (want : Wanted) (b : Bounds) where
   keeps-wanted c f = λ x e w. f x (passes-wanted net want 32 x e) w
 
   -- the rivals of an end that is taken go
-  pub shuns : (k end : ℕ) → k < 20 → end ≡ 2 ^ k → meets 32 (b .must) end ≡ true → (c : Bounds) → Keeps (λ x. not (meets 32 x (at net k))) b c → Keeps passing b c
+  pub shuns : (k end : ℕ) → k < limits .mostEnds → end ≡ 2 ^ k → meets 32 (b .must) end ≡ true → (c : Bounds) → Keeps (λ x. not (meets 32 x (at net k))) b c → Keeps passing b c
   shuns k end l q h c f = λ x e w.
       let i : has x k ≡ true = w .above k (omega arith) (taken k end q (b .must) h) in
       f x (without-rivals x k l e i) w
@@ -183,7 +184,7 @@ module _ (net : List ℕ) (want : Wanted) (b : Bounds) where
           let z : r .0 ≡ k = has-power-other k (r .0) (ap (λ (y : ℕ). has y (r .0)) (sym q) ∙ r .1 .1 .1) in
           ap (has m) (sym z) ∙ r .1 .1 .0
 
-      without-rivals : (x k : ℕ) → k < 20 → good net want x ≡ true → has x k ≡ true → not (meets 32 x (at net k)) ≡ true
+      without-rivals : (x k : ℕ) → k < limits .mostEnds → good net want x ≡ true → has x k ≡ true → not (meets 32 x (at net k)) ≡ true
       without-rivals x k l e i =
           by (has x k) (meets 32 x (at net k)) i (sym (clash-obeyed 32 x k (at net k) (omega arith)) ∙ rivals-obeyed net want 32 x e k l)
         where
@@ -193,10 +194,10 @@ module _ (net : List ℕ) (want : Wanted) (b : Bounds) where
 
 -- ---- no two ends of a set are rivals
 module _ (net : List ℕ) (x : ℕ) where
-  rivals-apart : (k : ℕ) → k < 20 → obeys 32 (rivalsAt net k) x ≡ not (has x k && meets 32 x (at net k))
+  rivals-apart : (k : ℕ) → k < limits .mostEnds → obeys 32 (rivalsAt net k) x ≡ not (has x k && meets 32 x (at net k))
   rivals-apart k l = clash-obeyed 32 x k (at net k) (omega arith)
 
-  pub apart-all : ((k : ℕ) → k < 20 → has x k ≡ true → meets 32 x (at net k) ≡ false) → apart net x ≡ true
+  pub apart-all : ((k : ℕ) → k < limits .mostEnds → has x k ≡ true → meets 32 x (at net k) ≡ false) → apart net x ≡ true
   unfolding apart
   apart-all h = below-all (λ k. obeys 32 (rivalsAt net k) x) 20 (λ k l. rivals-apart k l ∙ by (has x k) (meets 32 x (at net k)) (h k l))
     where
@@ -204,7 +205,7 @@ module _ (net : List ℕ) (x : ℕ) where
       by true b f = rw (f refl)
       by false b f = refl
 
-  pub apart-each : apart net x ≡ true → (k : ℕ) → k < 20 → obeys 32 (rivalsAt net k) x ≡ true
+  pub apart-each : apart net x ≡ true → (k : ℕ) → k < limits .mostEnds → obeys 32 (rivalsAt net k) x ≡ true
   unfolding apart
   apart-each h k l = all-below (λ k. obeys 32 (rivalsAt net k) x) 20 h k l
 
@@ -222,7 +223,7 @@ module _ (net : List ℕ) (x : ℕ) where
   -- the ends of the set but those that are left have no rivals
   pub record Parted (left : ℕ) : Type 0 where
     pub inside : (k : ℕ) → has left k ≡ true → has x k ≡ true
-    pub done : (k : ℕ) → k < 20 → has x k ≡ true → has left k ≡ false → meets 32 x (at net k) ≡ false
+    pub done : (k : ℕ) → k < limits .mostEnds → has x k ≡ true → has left k ≡ false → meets 32 x (at net k) ≡ false
 
   pub parted-none : Parted x
   parted-none = record { inside = λ k h. h; done = λ k l h i. never (has x k) h i }
@@ -238,7 +239,7 @@ module _ (net : List ℕ) (x : ℕ) where
       kept : (j : ℕ) → has left j ≡ true → has (2 ^ k) j ≡ false → has left j && not (has (2 ^ k) j) ≡ true
       kept j e o = and-both (has left j) (not (has (2 ^ k) j)) e (rw o)
 
-      here : (j : ℕ) → j < 20 → j ≡ k → meets 32 x (at net j) ≡ false
+      here : (j : ℕ) → j < limits .mostEnds → j ≡ k → meets 32 x (at net j) ≡ false
       here j l z = rw z (by (ltb k 20) (meets 32 x (at net k)) (lt-ltb k 20 (omega arith)) f)
         where
           by : (a b : Bool) → a ≡ true → a && b ≡ false → b ≡ false

@@ -13,6 +13,7 @@ use Rattle.paper.proofs.Members.{all-in, in-all, in-each, each-in, below-in, in
 use Rattle.pick_bounds.specs.declared.Wanted.{Wanted}
 use Rattle.pick_bounds.specs.declared.Rule.{Rule}
 use Rattle.paper.proofs.Counts.{all-append}
+use Rattle.paper.specs.Limits.{limits}
 use Rattle.pick_bounds.specs.Net.{Net, held, meets, obeys, passes, size, rivalsAt, ruleAt, netOf}
 use Rattle.pick_bounds.proofs.Sets.{held-wider, held-most, meets-held}
 
@@ -69,10 +70,10 @@ module _ (net : List ℕ) (want : Wanted) (m x : ℕ) where
       ap (λ (s : Rule). obeys m s x) q
       ∙ all-in (λ r. obeys m r x) (and-true apart lawful (parted e .1) .1) (each-in (ruleAt net) (below-in (size net) l))
 
-  pub rivals-obeyed : passes m (netOf net want) x ≡ true → (k : ℕ) → k < 20 → obeys m (rivalsAt net k) x ≡ true
+  pub rivals-obeyed : passes m (netOf net want) x ≡ true → (k : ℕ) → k < limits .mostEnds → obeys m (rivalsAt net k) x ≡ true
   rivals-obeyed e k l = all-in (λ r. obeys m r x) (and-true apart lawful (parted e .1) .0) (each-in (rivalsAt net) (below-in 20 l))
 
-  pub passes-all : want .least ≤ held m x (want .ends) → ((k : ℕ) → k < 20 → obeys m (rivalsAt net k) x ≡ true)
+  pub passes-all : want .least ≤ held m x (want .ends) → ((k : ℕ) → k < limits .mostEnds → obeys m (rivalsAt net k) x ≡ true)
       → ((i : ℕ) → i < size net → obeys m (ruleAt net i) x ≡ true) → passes m (netOf net want) x ≡ true
   passes-all l g h =
       passes-parts
@@ -90,7 +91,7 @@ module _ (net : List ℕ) (want : Wanted) (m x : ℕ) where
   pub passes-broken : (i : ℕ) → i < size net → (r : Rule) → r ≡ ruleAt net i → obeys m r x ≡ false → passes m (netOf net want) x ≡ false
   passes-broken i l r q h = false-if (passes m (netOf net want) x) (λ e. never (obeys m r x) (obeyed e i l r q) h)
 
-  pub passes-rivalled : (k : ℕ) → k < 20 → obeys m (rivalsAt net k) x ≡ false → passes m (netOf net want) x ≡ false
+  pub passes-rivalled : (k : ℕ) → k < limits .mostEnds → obeys m (rivalsAt net k) x ≡ false → passes m (netOf net want) x ≡ false
   passes-rivalled k l h = false-if (passes m (netOf net want) x) (λ e. never (obeys m (rivalsAt net k) x) (rivals-obeyed e k l) h)
 
 -- ---- a larger width, for sets of m ends

@@ -8,6 +8,7 @@ use native.Mathlib.Omega.{arith}
 use lib.Bits.{bitAnd, bitOr}
 use Rattle.paper.specs.Lists.{at, has}
 use Rattle.paper.proofs.Bools.{never, and-true, and-never, true-or-false, false-if}
+use Rattle.paper.specs.Limits.{limits}
 use Rattle.pick_bounds.specs.declared.Wanted.{Wanted}
 use Rattle.pick_bounds.specs.Net.{held, meets}
 use Rattle.pick_bounds.specs.Bounds.{good, Without}
@@ -18,7 +19,7 @@ use Rattle.pick_demands.specs.declared.Group.{Group}
 use Rattle.pick_demands.specs.Demands.{Shuns, Most, Huddled}
 
 -- ---- rivals
-pub shuns-net : (net : List ℕ) (want : Wanted) (k : ℕ) → k < 20 → Shuns (good net want) k (at net k)
+pub shuns-net : (net : List ℕ) (want : Wanted) (k : ℕ) → k < limits .mostEnds → Shuns (good net want) k (at net k)
 shuns-net net want k l = λ x e h.
     by (has x k) (meets 32 x (at net k)) h (sym (clash-obeyed 32 x k (at net k) (omega arith)) ∙ rivals-obeyed net want 32 x e k l)
   where

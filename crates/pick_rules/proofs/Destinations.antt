@@ -16,6 +16,7 @@ use Rattle.paper.proofs.Bools.{never, and-true, and-both, and-never, iff, if-tr
 use Rattle.paper.proofs.Counts.{any-below-none}
 use Rattle.paper.proofs.Lists.{all-below, below-all, lowest-is, lowest-is-none}
 use Rattle.paper.proofs.Members.{below-in, any-none, any-count}
+use Rattle.paper.specs.Limits.{limits}
 use Rattle.pick_bounds.specs.Net.{rule, obeys}
 use Rattle.ends_masks.proofs.Rules.{if-so}
 use Rattle.ends_masks.specs.Seating.{seats, served}
@@ -172,7 +173,7 @@ bars-kept t edge target home runs stock {n} ee en be bn =
     bars-or (bars-all (edgeBar t edge target home n) ee be) (bars-all (nodeBar t target home runs stock n) en bn)
 
 -- the rows of edges, of targets and of what is barred, one after the other
-pub destinations-added : (t edge target home runs stock : List ℕ) {n x : ℕ} {l₁ l₂ l₃ l₄ : List ℕ} {r₁ r₂ r₃ r₄ : ℕ} → n ≤ 20
+pub destinations-added : (t edge target home runs stock : List ℕ) {n x : ℕ} {l₁ l₂ l₃ l₄ : List ℕ} {r₁ r₂ r₃ r₄ : ℕ} → n ≤ limits .mostEnds
     → AddedUpto l₁ r₁ l₂ r₂ n (edgeRow t edge target home n) n → AddedUpto l₂ r₂ l₃ r₃ n (targetRow t target home runs stock n) n
     → BarredEnds n x (barsKept t edge target home runs stock n) → RulesAdded l₃ r₃ l₄ r₄ 1 n (obeys n (rule x x 0 0) ∷ [])
     → RulesAdded l₁ r₁ l₄ r₄ 41 n (destinationTests t edge target home runs stock n)

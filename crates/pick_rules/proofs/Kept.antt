@@ -18,6 +18,7 @@ use Rattle.paper.proofs.Bits.{has-pow, meet-has, has-meet}
 use Rattle.paper.proofs.Counts.{any-below-none}
 use Rattle.paper.proofs.Lists.{all-below, below-all}
 use Rattle.paper.proofs.Members.{any-in, in-any, in-below, below-in}
+use Rattle.paper.specs.Limits.{limits}
 use Rattle.offers.specs.Sets.{Marks}
 use Rattle.pick_bounds.specs.Net.{rule, clashRule, rivalsAt, meets, inBoth, held, obeys}
 use Rattle.pick_bounds.proofs.FourKinds.{clash-obeyed, need-obeyed, cap-obeyed}
@@ -84,7 +85,7 @@ module _ (foes makers : List ℕ) (n : ℕ) where
         ];
   }
 
-  pub filled-all : (net : List ℕ) (k : ℕ) → k ≡ n → n ≤ 20 → Filled net k → Starts net n (onEach (clashKept foes makers n) (below n) ∷ [])
+  pub filled-all : (net : List ℕ) (k : ℕ) → k ≡ n → n ≤ limits .mostEnds → Filled net k → Starts net n (onEach (clashKept foes makers n) (below n) ∷ [])
   unfolding holds
   filled-all net k e few f = record {
     says = λ c.
@@ -146,7 +147,7 @@ module _ (makers : List ℕ) (n c : ℕ) where
           (λ e. has-meet x (2 ^ z) z e (has-pow z z ∙ eq-eqb z z refl))
 
 module _ (t node parents makers : List ℕ) (rows n z c : ℕ) where
-  pub fork-says : (word w v : ℕ) → at node z < nodes t → kind t (at node z) ≡ 10 → n ≤ 20
+  pub fork-says : (word w v : ℕ) → at node z < nodes t → kind t (at node z) ≡ 10 → n ≤ limits .mostEnds
       → Marks (λ y. siblings node parents y z) rows word → Made makers n word w → Made makers n (2 ^ z) v
       → obeys n (rule w v 1 32) c ≡ forkKept t node parents makers rows n z c
   unfolding forkKept kept

@@ -18,6 +18,7 @@ use Rattle.table.specs.Reading.{Blank}
 use Rattle.paper.proofs.Counts.{all-append, any-below-none, count-below}
 use Rattle.paper.proofs.Digits.{has-zero}
 use Rattle.paper.proofs.Members.{any-in, in-below}
+use Rattle.paper.specs.Limits.{limits}
 use Rattle.pick_bounds.specs.Net.{Net, rule, meets, held, inBoth, obeys, passes, size, rivalsAt, ruleAt, netOf}
 use Rattle.pick_bounds.specs.declared.Rule.{Rule}
 use Rattle.pick_bounds.specs.declared.Wanted.{Wanted}
@@ -176,7 +177,7 @@ module _ (net : List ℕ) (k when only lo hi : ℕ) (room : 20 + 4 * k + 3 < len
       ∙ getD-set-other (set net row when) (row + 1) j only 0 (omega arith)
       ∙ getD-set-other net row j when 0 (omega arith)
 
-  old-rivals : (j : ℕ) → j < 20 → rivalsAt (put net k when only lo hi) j ≡ rivalsAt net j
+  old-rivals : (j : ℕ) → j < limits .mostEnds → rivalsAt (put net k when only lo hi) j ≡ rivalsAt net j
   old-rivals j g = rw (old-cell j (omega arith))
 
   old : (i : ℕ) → i < k → ruleAt (put net k when only lo hi) i ≡ ruleAt net i

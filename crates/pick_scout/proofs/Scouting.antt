@@ -10,6 +10,7 @@ use lib.Pow.{pow-mono, pow-pos}
 use lib.Bits.{bitOr}
 use Rattle.paper.proofs.Bools.{or-true}
 use Rattle.paper.specs.Lists.{has}
+use Rattle.paper.specs.Limits.{limits}
 use Rattle.pick_bounds.specs.declared.Bounds.{Bounds}
 use Rattle.pick_bounds.specs.Net.{meets}
 use Rattle.pick_bounds.specs.Bounds.{Between, Keeps, NoneIn}
@@ -27,7 +28,7 @@ two-more l = let e : l + 1 ≡ suc l = omega arith in rw (e, pow-suc 2 l) (let p
 pub halves : (l : ℕ) → 1 ≤ l → 2 ^ (l + 1) ≡ 2 ^ (l - 1 + 1) + 2 ^ (l - 1 + 1)
 halves l h = let e : l + 1 ≡ suc (l - 1 + 1) = omega arith in rw (e, pow-suc 2 (l - 1 + 1)) (omega arith)
 
-pub few-states : (l m : ℕ) → l ≤ m → m ≤ 20 → 2 ^ (l + 1) ≤ 2097152
+pub few-states : (l m : ℕ) → l ≤ m → m ≤ limits .mostEnds → 2 ^ (l + 1) ≤ 2097152
 few-states l m h k = let e : l + 1 ≤ 21 = omega arith in pow-mono e
 
 -- ---- scouting

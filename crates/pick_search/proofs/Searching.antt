@@ -14,6 +14,7 @@ use native.Mathlib.Decide.{decLt}
 use mathlib.Core.Logic.{⊎-elim}
 use Rattle.paper.proofs.Choices.{first-unique}
 use Rattle.paper.proofs.Search.{look, Finds, look-finds, look-first, found-first}
+use Rattle.paper.specs.Limits.{limits}
 use Rattle.pick_bounds.specs.declared.Bounds.{Bounds}
 use Rattle.pick_search.specs.declared.Place.{Place}
 use Rattle.pick_search.specs.declared.Spot.{Spot}
@@ -78,7 +79,7 @@ module _ (m left : ℕ) (p : Place) (placed : AtPlace m left p) (some-open : 1 �
   double : 2 ^ (m - (left - 1)) ≡ p .bit * 2
   double = rw (next, pow-suc 2 (m - left), placed .weight)
 
-  pub small-weight : m ≤ 20 → p .bit ≤ 524288
+  pub small-weight : m ≤ limits .mostEnds → p .bit ≤ 524288
   small-weight h = let e : m - left ≤ 19 = omega arith in omega (arith, placed .weight, pow-mono e)
 
   pub placed-taking : AtPlace m (left - 1) (taking p)
@@ -96,7 +97,7 @@ module _ (m left : ℕ) (p : Place) (placed : AtPlace m left p) (some-open : 1 �
   }
 
 -- ---- ends that are decided
-module _ (w : ℕ → Bool) (m left : ℕ) (p : Place) (b : Bounds) (placed : AtPlace m left p) (some-open : 1 ≤ left) (most : m ≤ 20) where
+module _ (w : ℕ → Bool) (m left : ℕ) (p : Place) (b : Bounds) (placed : AtPlace m left p) (some-open : 1 ≤ left) (most : m ≤ limits .mostEnds) where
   abbrev k : ℕ
   k = m - left
 
@@ -183,7 +184,7 @@ visited-skip w m left p b s v l f g = record {
 }
 
 -- ---- all ends that may be had are the first set
-pub may-first : (w : ℕ → Bool) (m left : ℕ) (p : Place) (b : Bounds) → AtPlace m left p → m ≤ 20 → b .may < 2 ^ m → b .may % p .bit ≡ p .taken → w (b .may) ≡ true
+pub may-first : (w : ℕ → Bool) (m left : ℕ) (p : Place) (b : Bounds) → AtPlace m left p → m ≤ limits .mostEnds → b .may < 2 ^ m → b .may % p .bit ≡ p .taken → w (b .may) ≡ true
     → Confined w m (m - left) (p .taken) b → look w left (m - left) (p .taken) ≡ some (b .may)
 may-first w m left p b placed most l s e all = by (look w left (m - left) (p .taken)) (look-finds w left (m - left) (p .taken) small)
   where
@@ -244,7 +245,7 @@ ends-leaf w m left p b z t e v same one = record {
     by true e = sym (rw z (look-leaf w _ (p .taken) (sym e)))
     by false e = sym (rw z (look-leaf-none w _ (p .taken) (sym e)))
 
-module _ (w : ℕ → Bool) (m left : ℕ) (p : Place) (b : Bounds) (placed : AtPlace m left p) (most : m ≤ 20) (some-open : 1 ≤ left) where
+module _ (w : ℕ → Bool) (m left : ℕ) (p : Place) (b : Bounds) (placed : AtPlace m left p) (most : m ≤ limits .mostEnds) (some-open : 1 ≤ left) where
   abbrev at : ℕ
   at = m - left
 
@@ -360,7 +361,7 @@ looks-all w m = let e : m - m ≡ 0 = omega arith in ap (λ (k : ℕ). look w m 
 all-states : (m : ℕ) → 2 ^ (m + 22) ≡ 2097152 * 2 ^ (m + 1)
 all-states m = let e : m + 22 ≡ (m + 1) + 21 = omega arith in rw (e, pow-add 2 (m + 1) 21) (omega arith)
 
-module _ (w : ℕ → Bool) (m top : ℕ) (is-top : top ≡ 2 ^ m) (most : m ≤ 20) (b : Bounds) (kept : Keeps w (record { must = 0; may = top - 1 }) b) where
+module _ (w : ℕ → Bool) (m top : ℕ) (is-top : top ≡ 2 ^ m) (most : m ≤ limits .mostEnds) (b : Bounds) (kept : Keeps w (record { must = 0; may = top - 1 }) b) where
   whole : Confined w m (m - m) 0 b
   whole x l s e = kept x e (confined-start w m top is-top x l s e)
 
@@ -389,7 +390,7 @@ module _ (w : ℕ → Bool) (m top : ℕ) (is-top : top ≡ 2 ^ m) (most : m ≤
   )
 
 -- what it finds is the first set that passes, by the ends below m alone
-module _ (net : Net) (m : ℕ) (most : m ≤ 20) where
+module _ (net : Net) (m : ℕ) (most : m ≤ limits .mostEnds) where
   agree : (x : ℕ) → x < 2 ^ m → passes 32 net x ≡ passes m net x
   agree x l = subst (λ (n : ℕ). passes n net x ≡ passes m net x) (let e : m + (32 - m) ≡ 32 = omega arith in e) (passes-wider m (32 - m) x l net)
 

@@ -11,6 +11,7 @@ use borrow.Author.Tests.{eqb-true, eqb-false, eq-eqb, ne-eqb, leb-true}
 use Rattle.paper.specs.Lists.{at, has, below, count, oneIf, within, _⇒_}
 use Rattle.paper.proofs.Bools.{never, and-never, or-right, true-or-false, false-if}
 use Rattle.paper.proofs.Counts.{count-below, count-below-same}
+use Rattle.paper.specs.Limits.{limits}
 use Rattle.pick_bounds.specs.declared.Wanted.{Wanted}
 use Rattle.pick_bounds.specs.declared.Rule.{Rule}
 use Rattle.pick_bounds.specs.declared.Bounds.{Bounds}
@@ -125,7 +126,7 @@ clash-free i rivals x l h = clash-obeyed 32 x i rivals l ∙ by (has x i) (λ a.
     by false f = refl
 
 module _ (net : List ℕ) (want : Wanted) where
-  clashing : (x i e : ℕ) → good net want x ≡ true → i < 20 → e < 32 → has x i ≡ true → has x e ≡ true → has (at net i) e ≡ true → ⊥
+  clashing : (x i e : ℕ) → good net want x ≡ true → i < limits .mostEnds → e < 32 → has x i ≡ true → has x e ≡ true → has (at net i) e ≡ true → ⊥
   clashing x i e g l h a b c =
       never true refl
       (sym (rivals-obeyed net want 32 x g i l)
@@ -133,7 +134,7 @@ module _ (net : List ℕ) (want : Wanted) where
       ∙ rw (a, meets-at 32 x (at net i) e h b c))
 
   -- end k may take the place of end j
-  module _ (b : Bounds) (k j : ℕ) (lk : k < 20) (may : has (b .may) k ≡ true) (alone : has (at net k) k ≡ false) (loose : has (b .must) j ≡ false)
+  module _ (b : Bounds) (k j : ℕ) (lk : k < limits .mostEnds) (may : has (b .may) k ≡ true) (alone : has (at net k) k ≡ false) (loose : has (b .must) j ≡ false)
       (wish : has (want .ends) j ≡ has (want .ends) k) (rules : AlikeAll net k j) (rivals : AlikeRivals net k j) (shares : SharesRivals net k j) where
     module _ (x : ℕ) (g : good net want x ≡ true) (hj : has x j ≡ true) (hk : has x k ≡ false) where
       abbrev y : ℕ
@@ -149,14 +150,14 @@ module _ (net : List ℕ) (want : Wanted) where
           (λ v. clashing x j e g (shares .0) h hj (sym (swapped-other x j k hj hk e u v) ∙ p) (shares .1 e q u)) (same-or-not e k)
 
       -- another end has neither of them for a rival
-      free-other : (i : ℕ) → i < 20 → (i ≡ j → ⊥) → (i ≡ k → ⊥) → has y i ≡ true → (e : ℕ) → e < 32 → (e ≡ j → ⊥) → has y e ≡ true → has (at net i) e ≡ true → ⊥
+      free-other : (i : ℕ) → i < limits .mostEnds → (i ≡ j → ⊥) → (i ≡ k → ⊥) → has y i ≡ true → (e : ℕ) → e < 32 → (e ≡ j → ⊥) → has y e ≡ true → has (at net i) e ≡ true → ⊥
       free-other i l s t a e h u p q =
           let xi : has x i ≡ true = sym (swapped-other x j k hj hk i s t) ∙ a in
           let lj = shares .0 in
           ⊎-elim (λ z. clashing x i j g l (omega arith) xi hj (rivals i l t (λ f. s (sym f)) ∙ ap (has (at net i)) (sym z) ∙ q))
           (λ v. clashing x i e g l h xi (sym (swapped-other x j k hj hk e u v) ∙ p) q) (same-or-not e k)
 
-      free : (i : ℕ) → i < 20 → has y i ≡ true → (e : ℕ) → e < 32 → has y e ≡ true → has (at net i) e ≡ true → ⊥
+      free : (i : ℕ) → i < limits .mostEnds → has y i ≡ true → (e : ℕ) → e < 32 → has y e ≡ true → has (at net i) e ≡ true → ⊥
       free i l a e h p q =
           ⊎-elim (λ z. free-k e h (not-j e p) p (ap (λ (m : ℕ). has (at net m) e) (sym z) ∙ q)) (λ t. free-other i l (not-j i a) t a e h (not-j e p) p q) (same-or-not i k)
 

@@ -11,6 +11,7 @@ use borrow.Author.Tests.{not-true}
 use Rattle.paper.specs.Lists.{at, has}
 use Rattle.paper.proofs.Bools.{never, and-true, or-true, or-false}
 use Rattle.paper.proofs.Digits.{has-zero}
+use Rattle.paper.specs.Limits.{limits}
 use Rattle.pick_bounds.specs.declared.Wanted.{Wanted}
 use Rattle.pick_bounds.specs.declared.Rule.{Rule}
 use Rattle.pick_bounds.specs.declared.Bounds.{Bounds}
@@ -105,7 +106,7 @@ same-but rivals k i ends alike end is f j h =
     (or-true (has alike j) (has (bitAnd ends end) j) (sym (has-or alike (bitAnd ends end) j) ∙ h))
 
 -- ---- rivals that are shared
-pub shares : (net : List ℕ) (k j end r : ℕ) → j < 20 → end ≡ 2 ^ j → Without (at net k) (bitOr (at net j) end) r → r ≡ 0
+pub shares : (net : List ℕ) (k j end r : ℕ) → j < limits .mostEnds → end ≡ 2 ^ j → Without (at net k) (bitOr (at net j) end) r → r ≡ 0
     → (i : ℕ) → has end i ≡ true → (i ≡ j) × SharesRivals net k i
 shares net k j end r l is s z i h =
     let e = is-end end j i is h in
@@ -136,7 +137,7 @@ kept-more P ends kept one i a f g j h =
     ⊎-elim (f j) (λ b. let q = g j b in (ap (has ends) (q .0) ∙ a, q .1)) (or-true (has kept j) (has one j) (sym (has-or kept one j) ∙ h))
 
 -- ---- open ends that nothing tells from end k
-pub twins-lack : (net : List ℕ) (want : Wanted) (b : Bounds) (k end loose ruled wished apart r : ℕ) → k < 20 → end ≡ 2 ^ k → meets 32 (b .may) end ≡ true
+pub twins-lack : (net : List ℕ) (want : Wanted) (b : Bounds) (k end loose ruled wished apart r : ℕ) → k < limits .mostEnds → end ≡ 2 ^ k → meets 32 (b .may) end ≡ true
     → meets 32 (at net k) end ≡ false → Without (b .may) (bitOr (b .must) end) loose → Only (AlikeAll net k) loose ruled → Only (Same (want .ends) k) ruled wished
     → Only (AlikeRivals net k) wished apart → Only (SharesRivals net k) apart r
     → Lacking (good net want) b k → (j : ℕ) → has r j ≡ true → Lacking (good net want) b j

@@ -26,7 +26,7 @@ use Rattle.paper.proofs.Orders.{sort-length}
 use Rattle.paper.proofs.Tables.{table-good}
 use Rattle.table.specs.declared.Table.{Table}
 use Rattle.table.specs.Reading.{countsOf, Spans}
-use Rattle.sheet_text.specs.Shown.{pathOver, pathsOver, pathShown, pathsShown, valueShown, headShown, endOver, endShown, endsOver, endsShown, EndsFit, countShown, pickShown, textShown}
+use Rattle.sheet_text.specs.Printed.{pathOver, pathsOver, pathPrinted, pathsPrinted, valuePrinted, headPrinted, endOver, endPrinted, endsOver, endsPrinted, EndsFit, countPrinted, pickPrinted, textPrinted}
 use Rattle.sheet_text.specs.Sheets.{Sheet}
 use Rattle.sheet_numbers.proofs.Decimals.{parted-more}
 use Rattle.sheet_text.proofs.Boards.{Small, EndFacts, end-facts}
@@ -62,8 +62,8 @@ module _ {s : List ℕ} where
       let e : p + length (pathBytes q) ≡ pathOver s p = omega (arith, rest-head (length q) (q ++ rest) r) in
       rest-to (pathOver s p) e (rest-on (pathBytes q) rest r)
 
-  path-here : {p : ℕ} (q rest : List ℕ) → Rest s p (pathBytes q ++ rest) → pathShown s p ≡ 32 ∷ commas q
-  unfolding pathShown
+  path-here : {p : ℕ} (q rest : List ℕ) → Rest s p (pathBytes q ++ rest) → pathPrinted s p ≡ 32 ∷ commas q
+  unfolding pathPrinted
   path-here {p} q rest r =
       let b : Rest s (p + 1) (q ++ rest) = rest-on (length q ∷ []) (q ++ rest) r in
       rw (rest-head (length q) (q ++ rest) r, b .is-rest, take-append-seam q rest)
@@ -73,16 +73,16 @@ module _ {s : List ℕ} where
   paths-over [] rest r = r
   paths-over (q ∷ qs) rest r = paths-over qs rest (path-over q (gather pathBytes qs ++ rest) (rw append-assoc at r))
 
-  paths-here : {p : ℕ} (qs : List (List ℕ)) (rest : List ℕ) → Rest s p (gather pathBytes qs ++ rest) → pathsShown s p (length qs) ≡ gather (λ q. 32 ∷ commas q) qs
-  unfolding pathsShown
+  paths-here : {p : ℕ} (qs : List (List ℕ)) (rest : List ℕ) → Rest s p (gather pathBytes qs ++ rest) → pathsPrinted s p (length qs) ≡ gather (λ q. 32 ∷ commas q) qs
+  unfolding pathsPrinted
   paths-here [] rest r = refl
   paths-here (q ∷ qs) rest r =
       let z = rw append-assoc at r in
       rw (path-here q (gather pathBytes qs ++ rest) z, paths-here qs rest (path-over q (gather pathBytes qs ++ rest) z))
 
   -- ---- what stands before the paths of an end
-  value-here : {p : ℕ} (v : Option ℕ) (rest : List ℕ) → Small v → Rest s p (valueBytes v ++ rest) → valueShown s p ≡ 32 ∷ valueText v
-  unfolding valueShown
+  value-here : {p : ℕ} (v : Option ℕ) (rest : List ℕ) → Small v → Rest s p (valueBytes v ++ rest) → valuePrinted s p ≡ 32 ∷ valueText v
+  unfolding valuePrinted
   value-here none rest m r = rw (rest-head 0 (four 0 ++ rest) r)
   value-here {p} (some v) rest m r =
       let b : Rest s (p + 1) (four v ++ rest) = rest-on (1 ∷ []) (four v ++ rest) r in
@@ -130,8 +130,8 @@ module _ {s : List ℕ} {p : ℕ} (o : Offer) (rest : List ℕ) (r : Rest s p (e
   unfolding endOver
   end-over = rw many-are (paths-over (sortedPaths o) rest behind-many)
 
-  end-here : (t : List ℕ) (k : ℕ) → Small (value o) → endShown t s p k ≡ lineOf t k o
-  unfolding endShown headShown lineOf
+  end-here : (t : List ℕ) (k : ℕ) → Small (value o) → endPrinted t s p k ≡ lineOf t k o
+  unfolding endPrinted headPrinted lineOf
   end-here t k m =
       rw (edge-here, many-are, value-here (value o) (length (paths o) ∷ blocks) m behind-edge, paths-here (sortedPaths o) rest behind-many)
       (line-is (decimal k) (decimal (lastEdge o)) (decimal (target t (lastEdge o))) (valueText (value o)) (sortedPaths o))
@@ -147,8 +147,8 @@ ends-inside [] r = r .inside
 ends-inside (o ∷ es) r = ends-inside es (end-over o (gather endBytes es) r)
 
 module _ {t s : List ℕ} where
-  ends-here : {p : ℕ} (k : ℕ) (es : List Offer) → ((o : Offer) → In o es → EndFacts t o) → Rest s p (gather endBytes es) → endsShown t s p k (length es) ≡ linesOf t k es
-  unfolding endsShown linesOf
+  ends-here : {p : ℕ} (k : ℕ) (es : List Offer) → ((o : Offer) → In o es → EndFacts t o) → Rest s p (gather endBytes es) → endsPrinted t s p k (length es) ≡ linesOf t k es
+  unfolding endsPrinted linesOf
   ends-here k [] f r = refl
   ends-here k (o ∷ es) f r =
       rw (end-here o (gather endBytes es) r t k (f o (here refl) .small), ends-here (suc k) es (λ x i. f x (later i)) (end-over o (gather endBytes es) r))
@@ -186,8 +186,8 @@ pub record Reads (t s : List ℕ) (n : ℕ) : Type 0 where
 pub spans-as : {t : List ℕ} {x : Table} → Spans t (countsOf t) → x .nodes ≡ nodes t → x .edges ≡ edges t → Spans t x
 spans-as s n e = record { nodes-read = n; edges-read = e; few-nodes = s .few-nodes; few-edges = s .few-edges; whole = s .whole }
 
-pub shown-is : (t s ks : List ℕ) (n : ℕ) → n ≡ at s 3 → countShown n ++ endsShown t s 4 0 n ++ pickShown ks ≡ textShown t s ks
-unfolding textShown
+pub shown-is : (t s ks : List ℕ) (n : ℕ) → n ≡ at s 3 → countPrinted n ++ endsPrinted t s 4 0 n ++ pickPrinted ks ≡ textPrinted t s ks
+unfolding textPrinted
 shown-is t s ks n e = rw e
 
 module _ {t s : List ℕ} (x : Sheet t s) where
@@ -214,8 +214,8 @@ module _ {t s : List ℕ} (x : Sheet t s) where
         fit = rw c (ends-fit es facts from-four);
       }
 
-  pub text-is : (ks : List ℕ) → textShown t s ks ≡ boardText (x .of) ks
-  unfolding textShown boardText countShown pickShown
+  pub text-is : (ks : List ℕ) → textPrinted t s ks ≡ boardText (x .of) ks
+  unfolding textPrinted boardText countPrinted pickPrinted
   text-is ks =
       let b = board-good t (x .marking) (x .under) (x .of) (x .is-board) in
       rw (count-here, ends-here 0 es facts from-four, lines-are (x .of) t (b .facts .is-table))

@@ -1,3 +1,3 @@
 -- What the text's writers promise, over the bytes they are lent.
-pub mod Shown
+pub mod Printed
 pub mod Sheets

@@ -8,7 +8,7 @@ ghost use Rattle.paper.specs.Program.{boardText, refusalText};
 ghost use Rattle.table.specs.Reading.{Spans};
 ghost use Rattle.sheet_numbers.specs.Written.{Written, Printed};
 ghost use Rattle.sheet_text.specs.Sheets.{Sheet};
-ghost use Rattle.sheet_text.specs.Shown.{pathOver, pathsOver, pathShown, pathsShown, valueShown, headShown, endOver, endShown, endsOver, endsShown, EndsFit, countShown, pickShown};
+ghost use Rattle.sheet_text.specs.Printed.{pathOver, pathsOver, pathPrinted, pathsPrinted, valuePrinted, headPrinted, endOver, endPrinted, endsOver, endsPrinted, EndsFit, countPrinted, pickPrinted};
 use table::Table;
 
 pub mod stream;
@@ -38,7 +38,7 @@ struct Places {
 // The path at a place of a sheet.
 fn put_path(s: &[u8], p: usize, out: &mut [u8], to: usize) -> usize
     requires { ⌜ (p < length (now s)) × (pathOver (now s) p ≤ length (now s)) × (to + 4 * (1 + at (now s) p) ≤ length (now out)) ⌝ }
-    ensures { λ r. ⌜ Written (now (out .entry)) to (pathShown (now (s .entry)) p) (now (out .exit)) r × (r ≤ to + 4 * (1 + at (now (s .entry)) p)) ⌝ }
+    ensures { λ r. ⌜ Written (now (out .entry)) to (pathPrinted (now (s .entry)) p) (now (out .exit)) r × (r ≤ to + 4 * (1 + at (now (s .entry)) p)) ⌝ }
 {
     out[to] = SPACE;
     sheet_numbers::put_commas(s, p + 1, wire::wide(s[p]), out, to + 1)
@@ -47,7 +47,7 @@ fn put_path(s: &[u8], p: usize, out: &mut [u8], to: usize) -> usize
 // The m paths from a place of a sheet on.
 fn put_paths(s: &[u8], start: usize, m: usize, out: &mut [u8], to: usize) -> Places
     requires { ⌜ (pathsOver (now s) start m ≤ length (now s)) × (to + 4 * pathsOver (now s) start m ≤ length (now out) + 4 * start) ⌝ }
-    ensures { λ r. ⌜ (r .read ≡ pathsOver (now (s .entry)) start m) × Written (now (out .entry)) to (pathsShown (now (s .entry)) start m) (now (out .exit)) (r .written) × (r .written + 4 * start ≤ to + 4 * r .read) ⌝ }
+    ensures { λ r. ⌜ (r .read ≡ pathsOver (now (s .entry)) start m) × Written (now (out .entry)) to (pathsPrinted (now (s .entry)) start m) (now (out .exit)) (r .written) × (r .written + 4 * start ≤ to + 4 * r .read) ⌝ }
 {
     let mut p = start;
     let mut next = to;
@@ -66,7 +66,7 @@ fn put_paths(s: &[u8], start: usize, m: usize, out: &mut [u8], to: usize) -> Pla
 // The value whose flag is at a place of a sheet, `-` for none.
 fn put_value(s: &[u8], p: usize, out: &mut [u8], to: usize) -> usize
     requires { ⌜ (p + 5 ≤ length (now s)) × (to + 11 ≤ length (now out)) ⌝ }
-    ensures { λ r. ⌜ Written (now (out .entry)) to (valueShown (now (s .entry)) p) (now (out .exit)) r × (r ≤ to + 11) ⌝ }
+    ensures { λ r. ⌜ Written (now (out .entry)) to (valuePrinted (now (s .entry)) p) (now (out .exit)) r × (r ≤ to + 11) ⌝ }
 {
     if s[p] == 0 {
         return sheet_numbers::put(b" -", out, to);
@@ -85,7 +85,7 @@ fn put_head(
     to: usize,
 ) -> usize
     requires { ⌜ Spans (now t) table × (at (now s) p < table .edges) × (p + 7 ≤ length (now s)) × (k < 256) × (to + 22 ≤ length (now out)) ⌝ }
-    ensures { λ r. ⌜ Written (now (out .entry)) to (headShown (now (t .entry)) (now (s .entry)) p k) (now (out .exit)) r × (r ≤ to + 22) ⌝ }
+    ensures { λ r. ⌜ Written (now (out .entry)) to (headPrinted (now (t .entry)) (now (s .entry)) p k) (now (out .exit)) r × (r ≤ to + 22) ⌝ }
 {
     let edge = wire::wide(s[p]);
     let a = sheet_numbers::put_decimal(k, out, to);
@@ -105,7 +105,7 @@ fn put_end(
     to: usize,
 ) -> Places
     requires { ⌜ Spans (now t) table × (at (now s) p < table .edges) × (endOver (now s) p ≤ length (now s)) × (k < 256) × (to + 4 * endOver (now s) p ≤ length (now out) + 4 * p) ⌝ }
-    ensures { λ r. ⌜ (r .read ≡ endOver (now (s .entry)) p) × Written (now (out .entry)) to (endShown (now (t .entry)) (now (s .entry)) p k) (now (out .exit)) (r .written) × (r .written + 4 * p ≤ to + 4 * r .read) ⌝ }
+    ensures { λ r. ⌜ (r .read ≡ endOver (now (s .entry)) p) × Written (now (out .entry)) to (endPrinted (now (t .entry)) (now (s .entry)) p k) (now (out .exit)) (r .written) × (r .written + 4 * p ≤ to + 4 * r .read) ⌝ }
 {
     let a = put_head(t, table, s, p, k, out, to);
     let m = wire::wide(s[p + MANY]);
@@ -121,7 +121,7 @@ fn put_end(
 // The lines of n ends, which stand behind the sheet's head.
 fn put_ends(t: &[u8], table: Table, s: &[u8], n: usize, out: &mut [u8], to: usize) -> usize
     requires { ⌜ Spans (now t) table × EndsFit (now t) (now s) 4 n × (endsOver (now s) 4 n ≤ length (now s)) × (n < 256) × (to + 4 * endsOver (now s) 4 n ≤ length (now out) + 16) ⌝ }
-    ensures { λ r. ⌜ Written (now (out .entry)) to (endsShown (now (t .entry)) (now (s .entry)) 4 0 n) (now (out .exit)) r × (r + 16 ≤ to + 4 * endsOver (now (s .entry)) 4 n) ⌝ }
+    ensures { λ r. ⌜ Written (now (out .entry)) to (endsPrinted (now (t .entry)) (now (s .entry)) 4 0 n) (now (out .exit)) r × (r + 16 ≤ to + 4 * endsOver (now (s .entry)) 4 n) ⌝ }
 {
     let mut p = ENDS;
     let mut next = to;
@@ -138,7 +138,7 @@ fn put_ends(t: &[u8], table: Table, s: &[u8], n: usize, out: &mut [u8], to: usiz
 // The first line, for n ends, at the front.
 fn put_count(n: usize, out: &mut [u8]) -> usize
     requires { ⌜ (n < 256) × (9 ≤ length (now out)) ⌝ }
-    ensures { λ r. ⌜ Written (now (out .entry)) 0 (countShown n) (now (out .exit)) r × (r ≤ 9) ⌝ }
+    ensures { λ r. ⌜ Written (now (out .entry)) 0 (countPrinted n) (now (out .exit)) r × (r ≤ 9) ⌝ }
 {
     let a = sheet_numbers::put(b"ends", out, 0);
     let b = sheet_numbers::put_parted(SPACE, n, out, a);
@@ -149,7 +149,7 @@ fn put_count(n: usize, out: &mut [u8]) -> usize
 // The last line: the ends that are picked.
 fn put_pick(choice: &[u8], out: &mut [u8], to: usize) -> usize
     requires { ⌜ to + (4 * length (now choice) + 7) ≤ length (now out) ⌝ }
-    ensures { λ r. ⌜ Written (now (out .entry)) to (pickShown (now (choice .entry))) (now (out .exit)) r × (r ≤ to + (4 * length (now (choice .entry)) + 7)) ⌝ }
+    ensures { λ r. ⌜ Written (now (out .entry)) to (pickPrinted (now (choice .entry))) (now (out .exit)) r × (r ≤ to + (4 * length (now (choice .entry)) + 7)) ⌝ }
 {
     let a = sheet_numbers::put(b"pick ", out, to);
     let b = sheet_numbers::put_commas(choice, 0, choice.len(), out, a);

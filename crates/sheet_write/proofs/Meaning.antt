@@ -15,9 +15,9 @@ use Rattle.paper.proofs.Orders.{sort-length}
 use Rattle.wire.proofs.Runs.{gather-same, part-length}
 use Rattle.offers.specs.Sets.{nth}
 use Rattle.offers.specs.Rows.{Holds, rowCells, rowsIn, valueOf}
-use Rattle.offers.proofs.Cells.{eight-under}
+use Rattle.offers.proofs.Cells.{most-under}
 use Rattle.ends_paths.specs.Blocks.{mostBlocks, blockCells, firstBlock, pathStart}
-use Rattle.ends.specs.Ends.{Stored, Listed}
+use Rattle.ends.specs.Ends.{Stored, EndsListed}
 use Rattle.sheet_write.specs.Listing.{valueShown, many, pathShown, pathOf, endShown, sheetShown, Shows}
 
 value-shown : (h v : ℕ) → valueShown h v ≡ valueBytes (valueOf h v)
@@ -45,7 +45,7 @@ gather-places {A} a f xs g h =
     ∙ ap (gather f) (each-below a (λ k. getD xs k a) xs (λ k l. refl))
 
 module _ (t rows : List ℕ) (c : ℕ) (ts es : List Offer) (ends order lens cells : List ℕ) (n : ℕ) (room : blockCells ≤ length cells)
-    (h : Holds t (rowsIn rows c) ts) (s : Listed ts es true ends order lens cells n) where
+    (h : Holds t (rowsIn rows c) ts) (s : EndsListed ts es true ends order lens cells n) where
   -- the tree of end k
   abbrev tree : ℕ → Offer
   tree k = nth ts (at ends k)
@@ -54,7 +54,7 @@ module _ (t rows : List ℕ) (c : ℕ) (ts es : List Offer) (ends order lens cel
   many-is : (k : ℕ) → k < n → many rows (at ends k) ≡ length (paths (tree k))
   many-is k l =
       let r = h .rows (at ends k) (s .inside k l) in
-      sym (eight-under (rowsIn rows c .entry (at ends k) .paths) (omega (arith, r .paths-are, r .few))) ∙ r .paths-are
+      sym (most-under (rowsIn rows c .entry (at ends k) .paths) (omega (arith, r .paths-are, r .few))) ∙ r .paths-are
 
   stored : (k : ℕ) → k < n → (j : ℕ) → j < many rows (at ends k) → Stored lens cells (at order (firstBlock k + j)) (getD (sortedPaths (tree k)) j [])
   stored k l j i = s .paths-are refl k l j (omega (arith, many-is k l))

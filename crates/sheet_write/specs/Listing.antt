@@ -9,7 +9,7 @@ use Rattle.paper.specs.Lists.{at, below, gather}
 use Rattle.paper.specs.Limits.{limits}
 use Rattle.paper.specs.Bytes.{sized, four}
 use Rattle.wire.specs.Totals.{total}
-use Rattle.offers.specs.Rows.{rowCells, rowsIn, cell, upToEight}
+use Rattle.offers.specs.Rows.{rowCells, rowsIn, cell, upToMost}
 use Rattle.ends_paths.specs.Blocks.{mostBlocks, blockCells, firstBlock, pathStart}
 
 -- 1 or 0 for value or none, and its four bytes
@@ -18,7 +18,7 @@ valueShown h v = cond (eqb h 0) (0 ∷ four 0) (1 ∷ four v)
 
 -- how many paths of row i are shown: there is room for eight
 abbrev pub many : List ℕ → ℕ → ℕ
-many rows i = upToEight (cell rows i 4)
+many rows i = upToMost (cell rows i 4)
 
 -- what stands before the paths of row i: its last edge, its value, and the number of its paths, each cut to the bytes that it gets
 abbrev pub frontShown : List ℕ → ℕ → List ℕ

@@ -13,11 +13,12 @@ use Rattle.paper.proofs.Ladders.{need-refused}
 use Rattle.table.specs.declared.Table.{Table}
 use Rattle.table.specs.Reading.{tableRead}
 use Rattle.table.proofs.Reading.{read-fine}
+use Rattle.marking.specs.declared.reading.MarkingAnswer.{MarkingAnswer}
 use Rattle.marking.specs.declared.reading.MarkingAnswer.the-variants.{Ended, Refused}
+use Rattle.marking.specs.Reading.{MarkingRead}
 use Rattle.marking.specs.Values.{listedNodes}
 use Rattle.marking_held.specs.declared.Held.{Held}
-use Rattle.marking_held.specs.declared.HeldAnswer.{HeldAnswer}
-use Rattle.marking_held.specs.MarkingHeld.{LiveMarking, ReadUp}
+use Rattle.marking_held.specs.MarkingHeld.{LiveMarking}
 use Rattle.marking_give.specs.Giving.{giveOf}
 use Rattle.marking_held.proofs.HeldLaws.{refused-up, ended-up}
 use Rattle.start_finish.specs.Delivered.{delivered}
@@ -25,14 +26,14 @@ use Rattle.start_finish.specs.Running.{runsIn}
 
 module _ (t b : List ℕ) (a : ℕ) (vs : List ℕ) where
   module _ {x : Table} (e : tableRead t ≡ good x) where
-    module _ (r : HeldAnswer) (h : ReadUp t b (marking t b) r) where
-      pub finish-5 : (n p : ℕ) → r .answer ≡ Refused n p → finish t b a vs ≡ refused n p
+    module _ (from kept tokens : List ℕ) (r : MarkingAnswer) (h : MarkingRead t b from kept tokens (marking t b) r) where
+      pub finish-5 : (n p : ℕ) → r ≡ Refused n p → finish t b a vs ≡ refused n p
       unfolding finish
-      finish-5 n p q = let z = refused-up t b r h n p q in rw (read-fine t e, z .0, z .1, z .2)
+      finish-5 n p q = let z = refused-up t b from kept tokens r h n p q in rw (read-fine t e, z .0, z .1, z .2)
 
-      pub finish-6 : r .answer ≡ Ended → finish t b a vs ≡ refused 6 0
+      pub finish-6 : r ≡ Ended → finish t b a vs ≡ refused 6 0
       unfolding finish finishOf
-      finish-6 q = let z = ended-up t b r h q in rw (read-fine t e, z .1, z .2)
+      finish-6 q = let z = ended-up t b from kept tokens r h q in rw (read-fine t e, z .1, z .2)
 
     -- w is the number of the action
     module _ {y : Held} (l : LiveMarking t b y) {w : ℕ} (same : w ≡ a) where

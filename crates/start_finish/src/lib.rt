@@ -37,12 +37,38 @@ fn deliver(
     ensures { λ r. ⌜ ((d : Deliverable (now (t .entry)) (listing .kind) (listing .owner) (now (old .entry)) held)
         → Reply (inRoom (length (now (out .entry))) (delivered (now (t .entry)) (listing .kind) (listing .owner) (firesAs (now (t .entry)) firing) (d .current) (now (values .entry)))) r (now (out .entry)) (now (out .exit))) ⌝ }
 {
-    let given = marking_give::give(t, table, listing, values, firing, held);
-    let answer = given.answer;
-    if let ValuesAnswer::Refused(number, at) = answer {
+    let mut place = [0u16; Table::MOST_NODES];
+    let mut more = [0u8; Table::MOST_NODES];
+    if let ValuesAnswer::Refused(number, at) = marking::read_values(
+        t,
+        table,
+        listing.kind,
+        listing.owner,
+        values,
+        &mut place,
+        &mut more,
+    ) {
         return wire::pack(number, at, 0);
     }
-    marking_write::reply(t, table, 0, old, values, given.held, out)
+    let kept = held.kept;
+    if !marking_give::stocks_fit(t, table, &kept, &more) {
+        return wire::pack(16, 0, 0);
+    }
+    let mut tokens = held.tokens;
+    if !marking_give::gain(t, table, firing, &mut tokens) {
+        return wire::pack(16, 0, 0);
+    }
+    let from = held.from;
+    let runs = held.runs;
+    let given = Held {
+        from: from,
+        kept: kept,
+        place: place,
+        more: more,
+        runs: runs,
+        tokens: tokens,
+    };
+    marking_write::reply(t, table, 0, old, values, given, out)
 }
 
 // What asking for a running action answers: nothing but that it runs, or the refusal's number and its place.
@@ -110,16 +136,18 @@ pub fn finish(t: &[u8], table: Table, b: &[u8], action: u8, values: &[u8], out: 
     requires { ⌜ tableRead (now t) ≡ good table ⌝ }
     ensures { λ r. ⌜ Leaves (Only (finished (now (t .entry)) (now (b .entry)) action (now (values .entry)))) r (now (out .entry)) (now (out .exit)) ⌝ }
 {
-    let reading = marking_held::read_up(t, table, b);
-    let answer = reading.answer;
-    match answer {
+    let mut from = [0u16; Table::MOST_NODES];
+    let mut kept = [0u8; Table::MOST_NODES];
+    let mut tokens = [0u8; Table::MOST_EDGES];
+    match marking::read(t, table, b, &mut from, &mut kept, &mut tokens) {
         MarkingAnswer::Live => {}
         MarkingAnswer::Ended => return wire::pack(6, 0, 0),
         MarkingAnswer::Refused(number, place) => return wire::pack(number, place, 0),
     }
     let a = wire::wide(action);
-    if let RunningAnswer::Refused(number, place) = running(t, table, reading.held, a) {
+    let held = marking_held::take_up(from, kept, tokens);
+    if let RunningAnswer::Refused(number, place) = running(t, table, held, a) {
         return wire::pack(number, place, 0);
     }
-    conclude(t, table, b, a, values, reading.held, out)
+    conclude(t, table, b, a, values, held, out)
 }

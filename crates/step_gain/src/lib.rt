@@ -7,7 +7,7 @@ use marking_held::Held;
 use offers::MOST_ENDS;
 use table::Table;
 ghost use mathlib.Core.Path.{_≡_};
-ghost use mathlib.Core.Bool.{Bool, not, _&&_, _||_};
+ghost use mathlib.Core.Bool.{Bool, not, _&&_, _||_, cond};
 ghost use mathlib.Core.List.{List, []};
 ghost use Prim.Native.Nat.{ℕ, _+_, _*_, _≤_, _<_};
 ghost use lib.Dec.{eqb};
@@ -16,7 +16,7 @@ ghost use lib.Seq.{sets};
 ghost use Rattle.paper.specs.Lists.{at, has, gather};
 ghost use Rattle.paper.specs.Bytes.{four};
 ghost use Rattle.paper.specs.Limits.{limits};
-ghost use Rattle.paper.specs.Table.{kind, isAction};
+ghost use Rattle.paper.specs.Table.{isAction};
 ghost use Rattle.paper.specs.Marking.{Marking};
 ghost use Rattle.words.specs.Marks.{MarksOf, placed};
 ghost use Rattle.table.specs.Reading.{Spans};
@@ -171,15 +171,17 @@ fn touched_nodes(target: &[u8], home: &[u8], n: usize, c: u32) -> [u8; Table::MO
     touched
 }
 
-// Whether node i is an action that starts, by its mark.
-fn is_started(t: &[u8], table: Table, touched: u8, i: usize) -> bool
-    requires { ⌜ Spans (now t) table × (i < table .nodes) ⌝ }
-    ensures { λ r. ⌜ r ≡ isAction (kind (now (t .entry)) i) && not (eqb touched 0) ⌝ }
+// The running byte of a node of kind k after the step: 1 for an action to which a taken end belongs, by its mark, else what it was.
+fn runs_then(k: usize, touched: u8, runs: u8) -> u8
+    ensures { λ r. ⌜ r ≡ cond (isAction k && not (eqb touched 0)) 1 runs ⌝ }
 {
-    if touched == 0 {
-        return false;
+    if k != Table::ACTION {
+        return runs;
     }
-    table.kind(t, i) == Table::ACTION
+    if touched == 0 {
+        return runs;
+    }
+    1
 }
 
 // What is held after the actions started to which a taken end belongs.
@@ -194,9 +196,7 @@ pub fn run(t: &[u8], table: Table, ends: Ends, c: u32, mut held: Held) -> Held
     let n = table.nodes;
     let mut i: usize = 0;
     while i < n {
-        if is_started(t, table, touched[i], i) {
-            held.runs[i] = 1;
-        }
+        held.runs[i] = runs_then(table.kind(t, i), touched[i], held.runs[i]);
         i += 1;
     }
     held

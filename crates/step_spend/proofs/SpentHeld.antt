@@ -35,11 +35,12 @@ pub tokens-none : (marks : List ℕ) (x : Held) → TokensGone marks x x 0
 tokens-none marks x = record { others = refl; filled = filled-none (λ e. cond (isMarked marks e) 0 (at (x .tokens) e)) (x .tokens) }
 
 module _ {marks : List ℕ} {x y : Held} {n : ℕ} (h : TokensGone marks x y n) where
-  pub tokens-set : n < length (y .tokens) → isMarked marks n ≡ true → TokensGone marks x (withTokens y (set (y .tokens) n 0)) (n + 1)
-  tokens-set l e = record { others = ap (λ (z : Held). withTokens z (set (y .tokens) n 0)) (h .others); filled = filled-set (h .filled) 0 l (sym (rw e)) }
-
-  pub tokens-skip : isMarked marks n ≡ false → TokensGone marks x y (n + 1)
-  tokens-skip e = record { others = h .others; filled = filled-skip (h .filled) (sym (rw e)) }
+  pub tokens-next : n < length (y .tokens) → (v : ℕ) → v ≡ cond (isMarked marks n) 0 (at (y .tokens) n)
+      → TokensGone marks x (withTokens y (set (y .tokens) n v)) (n + 1)
+  tokens-next l v e = record {
+    others = ap (λ (z : Held). withTokens z (set (y .tokens) n v)) (h .others);
+    filled = filled-set (h .filled) v l (e ∙ ap (cond (isMarked marks n) 0) (h .filled .rest n (omega arith)));
+  }
 
   pub tokens-lengths : HeldLengths x → HeldLengths y
   tokens-lengths l = subst HeldLengths (sym (h .others)) (record {
@@ -117,24 +118,18 @@ oldest-none marks x = record {
 }
 
 module _ {marks : List ℕ} {x y : Held} {n : ℕ} (h : OldestGone marks x y n) where
-  -- the node that comes next is asked as it was
-  asked : (g : Bool) → goes (at marks n) (at (y .kept) n) ≡ g → goes (at marks n) (at (x .kept) n) ≡ g
-  asked g e = ap (goes (at marks n)) (sym (h .kepts .rest n (omega arith))) ∙ e
-
-  pub oldest-set : n < length (y .from) → n < length (y .kept) → goes (at marks n) (at (y .kept) n) ≡ true → (f : ℕ) → f ≡ secondValue (at (y .from) n)
-      → OldestGone marks x (withStocks y (set (y .from) n f) (set (y .kept) n (at (y .kept) n - 1))) (n + 1)
-  oldest-set lf lk e f q = record {
-    others = ap (λ (z : Held). withStocks z (set (y .from) n f) (set (y .kept) n (at (y .kept) n - 1))) (h .others);
-    froms = filled-set (h .froms) f lf (q ∙ ap secondValue (h .froms .rest n (omega arith)) ∙ sym (rw (asked true e)));
-    kepts = filled-set (h .kepts) (at (y .kept) n - 1) lk (ap (λ (k : ℕ). k - 1) (h .kepts .rest n (omega arith)) ∙ sym (rw (asked true e)));
-  }
-
-  pub oldest-skip : goes (at marks n) (at (y .kept) n) ≡ false → OldestGone marks x y (n + 1)
-  oldest-skip e = record {
-    others = h .others;
-    froms = filled-skip (h .froms) (sym (rw (asked false e)));
-    kepts = filled-skip (h .kepts) (sym (rw (asked false e)));
-  }
+  pub oldest-next : n < length (y .from) → n < length (y .kept) → (f k : ℕ)
+      → f ≡ cond (goes (at marks n) (at (y .kept) n)) (secondValue (at (y .from) n)) (at (y .from) n)
+      → k ≡ cond (goes (at marks n) (at (y .kept) n)) (at (y .kept) n - 1) (at (y .kept) n)
+      → OldestGone marks x (withStocks y (set (y .from) n f) (set (y .kept) n k)) (n + 1)
+  oldest-next lf lk f k ef ek =
+      let q = h .kepts .rest n (omega arith) in
+      let r = h .froms .rest n (omega arith) in
+      record {
+        others = ap (λ (z : Held). withStocks z (set (y .from) n f) (set (y .kept) n k)) (h .others);
+        froms = filled-set (h .froms) f lf (rw (q, r) at ef);
+        kepts = filled-set (h .kepts) k lk (rw q at ek);
+      }
 
   pub oldest-lengths : HeldLengths x → HeldLengths y
   oldest-lengths l = subst HeldLengths (sym (h .others)) (record {

@@ -5,9 +5,9 @@
 use marking_held::Held;
 use table::Table;
 ghost use mathlib.Core.Path.{_≡_};
-ghost use mathlib.Core.Bool.{Bool, _&&_};
+ghost use mathlib.Core.Bool.{Bool, not, _&&_, cond};
 ghost use mathlib.Core.List.{List, []};
-ghost use Prim.Native.Nat.{ℕ, _+_, _≤_, _<_};
+ghost use Prim.Native.Nat.{ℕ, _+_, _-_, _≤_, _<_};
 ghost use lib.Dec.{eqb};
 ghost use lib.ListN.{length};
 ghost use Rattle.paper.specs.Lists.{has};
@@ -48,7 +48,17 @@ pub fn spent_edges<'a>(
     spent
 }
 
-// However much an edge holds, it goes to 0 if it is spent.
+// What an edge holds after the step, by its mark.
+fn tokens_left(spent: u8, tokens: u8) -> u8
+    ensures { λ r. ⌜ r ≡ cond (not (eqb spent 0)) 0 tokens ⌝ }
+{
+    if spent != 0 {
+        return 0;
+    }
+    tokens
+}
+
+// However much an edge holds, it goes to 0 if it is spent. Each count is stored, spent or not: a branch would take longer.
 fn spend_tokens(table: Table, spent: &[u8], mut held: Held) -> Held
     requires { ⌜ (table .edges ≤ limits .mostEdges) × (table .edges ≤ length (now spent)) × HeldLengths held ⌝ }
     ensures { λ r. ⌜ HeldLengths r × ((p : ℕ → Bool) → MarksOf p (limits .mostEdges) (now (spent .entry)) → (t : List ℕ) (m : Marking) (b : List ℕ) → Spans t table
@@ -57,9 +67,7 @@ fn spend_tokens(table: Table, spent: &[u8], mut held: Held) -> Held
     let n = table.edges;
     let mut e: usize = 0;
     while e < n {
-        if spent[e] != 0 {
-            held.tokens[e] = 0;
-        }
+        held.tokens[e] = tokens_left(spent[e], held.tokens[e]);
         e += 1;
     }
     held
@@ -97,6 +105,26 @@ fn second_value(from: u16) -> u16
     from + 4
 }
 
+// Where the values of a node stand that are left, by its mark, if it kept so many.
+fn from_left(losing: u8, kept: u8, from: u16) -> u16
+    ensures { λ r. ⌜ r ≡ cond (goes losing kept) (secondValue from) from ⌝ }
+{
+    if oldest_goes(losing, kept) {
+        return second_value(from);
+    }
+    from
+}
+
+// How many values are left.
+fn kept_left(losing: u8, kept: u8) -> u8
+    ensures { λ r. ⌜ r ≡ cond (goes losing kept) (kept - 1) kept ⌝ }
+{
+    if oldest_goes(losing, kept) {
+        return kept - 1;
+    }
+    kept
+}
+
 // An object node loses one value, the oldest, however many of its edges are spent. Of other nodes nobody looks at what is kept.
 fn spend_stocks(t: &[u8], table: Table, spent: &[u8], mut held: Held) -> Held
     requires { ⌜ Spans (now t) table × (table .edges ≤ length (now spent)) × HeldLengths held ⌝ }
@@ -107,10 +135,8 @@ fn spend_stocks(t: &[u8], table: Table, spent: &[u8], mut held: Held) -> Held
     let n = table.nodes;
     let mut i: usize = 0;
     while i < n {
-        if oldest_goes(losing[i], held.kept[i]) {
-            held.from[i] = second_value(held.from[i]);
-            held.kept[i] = held.kept[i] - 1;
-        }
+        held.from[i] = from_left(losing[i], held.kept[i], held.from[i]);
+        held.kept[i] = kept_left(losing[i], held.kept[i]);
         i += 1;
     }
     held

@@ -35,7 +35,7 @@ begun-none key e n first next few fits bf bn = record {
   lists = λ i l.
       let q = bf .no-edges i (omega arith) in
       subst (λ z. ListFrom next (getD first i 0) (keep (λ k. eqb (key k) i) (from e z))) (let z : 0 ≡ e - e = omega arith in z)
-      (let z : 64 ≤ getD first i 0 = omega arith in z);
+      (let z : limits .mostEdges ≤ getD first i 0 = omega arith in z);
 }
 
 -- what stands behind edge j is not asked on lists that begin later
@@ -115,7 +115,7 @@ incoming-listed y = record { forward = y .forward; lists = y .lists }
 -- at an edge the list goes on with it
 pub list-edge : (next : List ℕ) (j : ℕ) (js : List ℕ) → ListFrom next j js → j < limits .mostEdges
     → (is : List ℕ) × ((js ≡ j ∷ is) × ListFrom next (getD next j 0) is)
-list-edge next j [] h l = let z : 64 ≤ j = h in absurd (omega arith)
+list-edge next j [] h l = let z : limits .mostEdges ≤ j = h in absurd (omega arith)
 list-edge next j (i ∷ is) h l = (is, (ap (λ z. z ∷ is) (sym (h .0 .0)), h .1))
 
 -- elsewhere it ends
@@ -128,10 +128,10 @@ pub some-list : (next : List ℕ) (j : ℕ) → Forward next → (js : List ℕ)
 some-list next j f = by (limits .mostEdges) j (omega arith)
   where
     by : (n j : ℕ) → limits .mostEdges ≤ n + j → (js : List ℕ) × ListFrom next j js
-    by zero j l = let z : 64 ≤ j = omega arith in ([], z)
+    by zero j l = let z : limits .mostEdges ≤ j = omega arith in ([], z)
     by (suc n) j l = elim (decLt j 64) [
       | yes q ↦ let u = f j q in let r = by n (getD next j 0) (omega arith) in (j ∷ r .0, ((refl, q), r .1))
-      | no q ↦ let z : 64 ≤ j = omega arith in ([], z)
+      | no q ↦ let z : limits .mostEdges ≤ j = omega arith in ([], z)
     ]
 
 -- ---- an array that lists nothing

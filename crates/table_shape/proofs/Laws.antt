@@ -7,18 +7,19 @@ use native.Mathlib.Numerals.{add-one}
 use mathlib.Core.Bool.{Bool, true, false, not, _&&_, _||_, or-comm, and-true, and-false}
 use mathlib.Core.Logic.{⊎-elim}
 use mathlib.Core.List.{List}
-use lib.Dec.{eqb}
+use lib.Dec.{leb, eqb}
 use lib.ListN.{length, set, length-set}
 use lib.Seq.{getD-set-same, getD-set-other}
-use borrow.Author.Tests.{eqb-true, eqb-false, eq-eqb, ne-eqb}
+use borrow.Author.Tests.{leb-true, eqb-true, eqb-false, eq-eqb, ne-eqb}
 use Rattle.paper.specs.Lists.{at, below, any, keep, count, oneIf}
 use Rattle.paper.specs.Limits.{limits}
-use Rattle.paper.specs.Table.{edges, kind, edgeKind, source, target, isObject, isControl, into, out, chain, degreesFine, oneKind, joinFine, actionFine, chainFine, shapeFine}
-use Rattle.paper.proofs.Bools.{and-both, or-left, iff}
+use Rattle.paper.specs.Table.{edges, kind, edgeKind, source, target, isObject, isControl, into, out, isControlNode, chain, degreesFine, oneKind, joinFine, actionFine, chainFine, shapeFine}
+use Rattle.paper.proofs.Bools.{never, and-both, or-left, iff}
 use Rattle.paper.proofs.Bools.{and-true as and-true-both, or-true as or-true-cases}
 use Rattle.paper.proofs.Counts.{count-below, count-below-same, count-keep, length-count}
 use Rattle.paper.proofs.Shapes.{all-object, all-control}
 use Rattle.paper.proofs.Tables.{EdgeFields}
+use Rattle.table.proofs.Incoming.{equal-or-not}
 use Rattle.table_shape.specs.declared.Degrees.{Degrees}
 use Rattle.table_shape.specs.Shape.{Counts, Tallied, ofOneKind, splitFine, mergeFine, joinShape, actionShape}
 
@@ -161,10 +162,22 @@ module _ (t : List ℕ) (i : ℕ) (free : chain t (limits .chainTooLong) i ≡ f
   unfolding shapeFine degreesFine oneKind joinFine actionFine chainFine
   at-join e = sym (simp (e, free, and-true))
 
-  pub at-rest : (kind t i ≡ 2 → ⊥) → (kind t i ≡ 8 → ⊥) → (kind t i ≡ 9 → ⊥) → (kind t i ≡ 10 → ⊥) → (kind t i ≡ 11 → ⊥) → true ≡ shapeFine t limits i
+  -- a control node that is no merge and no join is a decision or a fork
+  pub at-split : isControlNode (kind t i) ≡ true → (kind t i ≡ 9 → ⊥) → (kind t i ≡ 11 → ⊥) → splitFine t i ≡ shapeFine t limits i
+  at-split c m j =
+      let r = and-true-both (leb 8 (kind t i)) (leb (kind t i) 11) c in
+      let low = leb-true 8 (kind t i) (r .0) in
+      let high = leb-true (kind t i) 11 (r .1) in
+      ⊎-elim at-decision (λ d. at-fork (omega (arith, low, high, m, j, d))) (equal-or-not (kind t i) 8)
+
+  -- a node that is neither a control node nor an action is free
+  pub at-rest : (kind t i ≡ 2 → ⊥) → isControlNode (kind t i) ≡ false → true ≡ shapeFine t limits i
   unfolding shapeFine degreesFine oneKind joinFine actionFine chainFine
-  at-rest a d m f j =
-      sym (simp (ne-eqb (kind t i) 2 a, ne-eqb (kind t i) 8 d, ne-eqb (kind t i) 9 m, ne-eqb (kind t i) 10 f, ne-eqb (kind t i) 11 j, free))
+  at-rest a c =
+      sym (simp (ne-eqb (kind t i) 2 a, ne-eqb (kind t i) 8 (no 8 refl), ne-eqb (kind t i) 9 (no 9 refl), ne-eqb (kind t i) 10 (no 10 refl), ne-eqb (kind t i) 11 (no 11 refl), free))
+    where
+      no : (n : ℕ) → isControlNode n ≡ true → kind t i ≡ n → ⊥
+      no n h e = never (isControlNode n) h (ap isControlNode (sym e) ∙ c)
 
 -- ---- where a chain of the forbidden length ends
 pub at-chain-end : (t : List ℕ) (i : ℕ) → chain t (limits .chainTooLong) i ≡ true → shapeFine t limits i ≡ false

@@ -1,3 +1,2 @@
 -- Laws that the proofs of row 4 cite.
 pub mod Laws
-pub mod Chains

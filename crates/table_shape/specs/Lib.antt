@@ -1,3 +1,2 @@
 -- What the arrays of row 4 hold.
 pub mod Shape
-pub mod Chains

@@ -12,8 +12,8 @@ use Rattle.paper.specs.Answers.{refused, good}
 use Rattle.paper.specs.Offers.{guardsFine, boundsFine, boundsCount, boundEdge, low, high, inBounds, terms, goesOver}
 use Rattle.paper.proofs.Ladders.{need-good, need-passed}
 use Rattle.paper.proofs.BoundsLists.{GoodBounds, bounds-good, listed-bounds, unlisted-bounds}
-use Rattle.offers.specs.Rows.{admitted}
-use Rattle.offers.specs.declared.Gate.{Gate}
+use Rattle.offers_over.specs.Over.{admitted}
+use Rattle.offers_over.specs.declared.Gate.{Gate}
 use Rattle.terms.specs.Terms.{termsFine, Entries, EntryFound, Ties}
 
 -- ---- the two rows

@@ -3,7 +3,7 @@
 mod bounds;
 mod guards;
 
-use offers::Gate;
+use offers_over::Gate;
 use table::Table;
 ghost use mathlib.Core.Path.{_≡_};
 ghost use mathlib.Core.List.{List};
@@ -14,7 +14,7 @@ ghost use lib.Dec.{eqb};
 ghost use lib.ListN.{length};
 ghost use Rattle.paper.specs.Lists.{at};
 ghost use Rattle.table.specs.Reading.{Spans};
-ghost use Rattle.offers.specs.Rows.{admitted};
+ghost use Rattle.offers_over.specs.Over.{admitted};
 ghost use Rattle.terms.specs.Terms.{said, termsFine, Ties};
 
 // What reading guards and bounds answers: nothing but that they are fine, or the refusal's number and its place.

@@ -2,7 +2,8 @@
 use mathlib.Core.Path.{_∙_}
 use borrow.Author.Needs.{needs}
 use Rattle.ends_masks.specs.Seating.{rivalled}
-use Rattle.choice_judge.proofs.Masks.{rivalled-mask, stops, goes-on}
+use Rattle.choice_agree.proofs.Masks.{stops, goes-on}
+use Rattle.choice_judge.proofs.Masks.{rivalled-mask}
 use Rattle.choice_judge.proofs.is_rivalled.Statement.{statement}
 use Rattle.choice_judge.proofs.is_rivalled.Tie as tie
 

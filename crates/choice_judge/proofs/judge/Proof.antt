@@ -5,7 +5,8 @@ use native.Mathlib.Omega.{arith}
 use Rattle.offers.specs.declared.Offers.{Offers}
 use Rattle.table.proofs.Reading.{read-spans}
 use Rattle.ends_masks.specs.Seating.{firstRivalled, forks}
-use Rattle.choice_judge.specs.Judging.{found, forksIn}
+use Rattle.choice_agree.specs.Agreeing.{found}
+use Rattle.choice_judge.specs.Judging.{forksIn}
 use Rattle.choice_judge.proofs.Masks.{forks-rows}
 use borrow.Author.Needs.{needs}
 use Rattle.choice_judge.proofs.judge.Statement.{statement}

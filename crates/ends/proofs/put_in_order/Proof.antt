@@ -9,7 +9,8 @@ use Rattle.paper.specs.Lists.{at}
 use Rattle.paper.proofs.Bools.{never}
 use Rattle.ends_paths.specs.Blocks.{firstBlock}
 use Rattle.ends_paths.proofs.Insertion.{in-order-inside}
-use Rattle.ends.specs.Slots.{byEnd, laidFrom, Ordered}
+use Rattle.ends_order.specs.Order.{byEnd}
+use Rattle.ends.specs.Slots.{laidFrom, Ordered}
 use Rattle.ends.proofs.Order.{slots-read}
 use Rattle.ends.proofs.put_in_order.Statement.{statement}
 use Rattle.ends.proofs.put_in_order.Tie as tie

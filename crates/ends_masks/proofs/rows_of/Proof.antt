@@ -3,6 +3,7 @@ use Prim.Native.Nat.{ℕ, _≤_, _<_, _-_}
 use native.Mathlib.Omega.{arith}
 use lib.ListN.{length}
 use Rattle.paper.specs.Lists.{at}
+use Rattle.paper.specs.Limits.{limits}
 use Rattle.ends_masks.proofs.Masks.{column-more}
 use borrow.Author.Needs.{needs}
 use Rattle.ends_masks.proofs.rows_of.Statement.{statement}
@@ -11,7 +12,7 @@ use Rattle.ends_masks.proofs.rows_of.Reads as reads
 use Rattle.ends_masks.proofs.rows_of.Lts as lts
 
 abbrev Inv-loop : tie.InvT-loop
-Inv-loop ends n to₀ k₀ to k = (k ≤ n) × (length to ≡ 20) × ((j : ℕ) → j < k → at to j ≡ at ends j)
+Inv-loop ends n to₀ k₀ to k = (k ≤ n) × (length to ≡ limits .mostEnds) × ((j : ℕ) → j < k → at to j ≡ at ends j)
 
 abbrev μ-loop : tie.MeasureT-loop
 μ-loop ends n to₀ k₀ to k = n - k

@@ -5,6 +5,7 @@ use native.Mathlib.Omega.{arith}
 use lib.ListN.{length}
 use borrow.Author.Needs.{needs}
 use Rattle.paper.specs.Lists.{at}
+use Rattle.paper.specs.Limits.{limits}
 use Rattle.offers.specs.Rows.{cell}
 use Rattle.ends_masks.proofs.Masks.{column-more}
 use Rattle.ends_masks.proofs.words_of.Statement.{statement}
@@ -14,7 +15,7 @@ use Rattle.ends_masks.proofs.words_of.Lts as lts
 use Rattle.wire.proofs.wide.Reads as wide-reads
 
 abbrev Inv-loop : tie.InvT-loop
-Inv-loop rows i ends n to₀ k₀ to k = (k ≤ n) × (length to ≡ 20) × ((j : ℕ) → j < k → at to j ≡ cell rows (at ends j) i)
+Inv-loop rows i ends n to₀ k₀ to k = (k ≤ n) × (length to ≡ limits .mostEnds) × ((j : ℕ) → j < k → at to j ≡ cell rows (at ends j) i)
 
 abbrev μ-loop : tie.MeasureT-loop
 μ-loop rows i ends n to₀ k₀ to k = n - k

@@ -3,7 +3,7 @@ use mathlib.Core.Path.{_≡_}
 use native.Mathlib.Omega.{arith}
 use borrow.Author.Needs.{needs}
 use Rattle.offers.specs.Rows.{cell}
-use Rattle.offers.proofs.Cells.{eight-over, eight-under}
+use Rattle.offers.proofs.Cells.{most-over, most-under}
 use Rattle.offers.proofs.paths_of.Statement.{statement}
 use Rattle.offers.proofs.paths_of.Tie as tie
 
@@ -20,10 +20,10 @@ shared-slice-read-p : tie.Need-shared-slice-read-p
 shared-slice-read-p c = search needs
 
 returns : tie.Need-returns
-returns c = let a = c .before .before .args in (eight-over (cell (a .rows .now) (a .i) 4) (omega (arith, c .if1 .taken)), search needs)
+returns c = let a = c .before .before .args in (most-over (cell (a .rows .now) (a .i) 4) (omega (arith, c .if1 .taken)), search needs)
 
 returns-2 : tie.Need-returns-2
-returns-2 c = let a = c .before .before .args in (eight-under (cell (a .rows .now) (a .i) 4) (omega (arith, c .if1 .left)), search needs)
+returns-2 c = let a = c .before .before .args in (most-under (cell (a .rows .now) (a .i) 4) (omega (arith, c .if1 .left)), search needs)
 
 pub paths-of-spec : {M : Type 1} → statement M
 paths-of-spec = tie.close (tie.spec mul-p add-p mul-p-2 shared-slice-read-p returns returns-2)

@@ -2,11 +2,12 @@
 use Prim.Native.Nat.{_≤_, _-_}
 use lib.ListN.{length}
 use borrow.Author.Needs.{needs}
+use Rattle.paper.specs.Limits.{limits}
 use Rattle.offers_ahead.proofs.fewest.Statement.{statement}
 use Rattle.offers_ahead.proofs.fewest.Tie as tie
 
 abbrev Inv-loop : tie.InvT-loop
-Inv-loop edges from to served blocked best₀ low₀ k₀ best low k = (to ≤ length edges) × (to ≤ 64)
+Inv-loop edges from to served blocked best₀ low₀ k₀ best low k = (to ≤ length edges) × (to ≤ limits .mostOffers)
 
 abbrev μ-loop : tie.MeasureT-loop
 μ-loop edges from to served blocked best₀ low₀ k₀ best low k = to - k

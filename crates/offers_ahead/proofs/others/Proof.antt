@@ -2,11 +2,12 @@
 use Prim.Native.Nat.{_≤_, _-_}
 use lib.ListN.{length}
 use borrow.Author.Needs.{needs}
+use Rattle.paper.specs.Limits.{limits}
 use Rattle.offers_ahead.proofs.others.Statement.{statement}
 use Rattle.offers_ahead.proofs.others.Tie as tie
 
 abbrev Inv-loop : tie.InvT-loop
-Inv-loop edges from to served k x₀ j₀ x j = (to ≤ length edges) × (to ≤ 64)
+Inv-loop edges from to served k x₀ j₀ x j = (to ≤ length edges) × (to ≤ limits .mostOffers)
 
 abbrev μ-loop : tie.MeasureT-loop
 μ-loop edges from to served k x₀ j₀ x j = to - j

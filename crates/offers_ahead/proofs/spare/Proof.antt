@@ -2,11 +2,12 @@
 use Prim.Native.Nat.{_≤_, _-_}
 use lib.ListN.{length}
 use borrow.Author.Needs.{needs}
+use Rattle.paper.specs.Limits.{limits}
 use Rattle.offers_ahead.proofs.spare.Statement.{statement}
 use Rattle.offers_ahead.proofs.spare.Tie as tie
 
 abbrev Inv-loop : tie.InvT-loop
-Inv-loop rivals count s x blocked i₀ i = (i ≤ count) × (count ≤ length rivals) × (count ≤ 64)
+Inv-loop rivals count s x blocked i₀ i = (i ≤ count) × (count ≤ length rivals) × (count ≤ limits .mostOffers)
 
 abbrev μ-loop : tie.MeasureT-loop
 μ-loop rivals count s x blocked i₀ i = count - i

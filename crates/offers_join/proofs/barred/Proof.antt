@@ -8,7 +8,8 @@ use lib.Bits.{bitOr}
 use lib.ListN.{length}
 use borrow.Author.Needs.{needs}
 use Rattle.offers.specs.Sets.{Marks}
-use Rattle.offers.specs.Rows.{cell, valueOf, admitted}
+use Rattle.offers.specs.Rows.{cell, valueOf}
+use Rattle.offers_over.specs.Over.{admitted}
 use Rattle.offers.proofs.Sets.{marks-nil, marks-skip, marks-more}
 use Rattle.offers_join.proofs.barred.Statement.{statement}
 use Rattle.offers_join.proofs.barred.Tie as tie

@@ -4,6 +4,7 @@ use mathlib.Core.Bool.{true}
 use Prim.Native.Nat.{ℕ, _+_, _-_, _≤_}
 use native.Mathlib.Omega.{arith}
 use borrow.Author.Needs.{needs}
+use Rattle.paper.specs.Limits.{limits}
 use Rattle.pick_bounds.specs.declared.Wanted.{Wanted}
 use Rattle.pick_bounds.specs.Net.{held}
 use Rattle.pick_bounds.specs.Bounds.{good}
@@ -12,7 +13,7 @@ use Rattle.pick_demands.proofs.crowd.Statement.{statement}
 use Rattle.pick_demands.proofs.crowd.Tie as tie
 
 abbrev Inv-loop : tie.InvT-loop
-Inv-loop net ends left₀ most₀ left most = (most ≤ 20) × ((want : Wanted) (x : ℕ) → good net want x ≡ true → held 32 x ends ≤ most + held 32 x left)
+Inv-loop net ends left₀ most₀ left most = (most ≤ limits .mostEnds) × ((want : Wanted) (x : ℕ) → good net want x ≡ true → held 32 x ends ≤ most + held 32 x left)
 
 abbrev μ-loop : tie.MeasureT-loop
 μ-loop net ends left₀ most₀ left most = 20 - most

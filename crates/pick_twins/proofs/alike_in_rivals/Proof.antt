@@ -1,13 +1,14 @@
 -- `alike_in_rivals`: the invariant says that the rivals of the ends before i tell none of `same` from end k. Assumes nothing.
 use native.Mathlib.Omega.{arith}
 use Prim.Native.Nat.{_-_, _≤_}
+use Rattle.paper.specs.Limits.{limits}
 use Rattle.pick_twins.proofs.Telling.{ByRivals, Before, before-none, before-more}
 use borrow.Author.Needs.{needs}
 use Rattle.pick_twins.proofs.alike_in_rivals.Statement.{statement}
 use Rattle.pick_twins.proofs.alike_in_rivals.Tie as tie
 
 abbrev Inv-loop : tie.InvT-loop
-Inv-loop net k ends same₀ i₀ same i = (i ≤ 20) × Before ends (ByRivals net k) same i
+Inv-loop net k ends same₀ i₀ same i = (i ≤ limits .mostEnds) × Before ends (ByRivals net k) same i
 
 abbrev μ-loop : tie.MeasureT-loop
 μ-loop net k ends same₀ i₀ same i = 20 - i

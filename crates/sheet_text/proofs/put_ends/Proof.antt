@@ -2,7 +2,7 @@
 use mathlib.Core.Path.{_≡_, sym, _∙_}
 use Prim.Native.Nat.{_+_, _*_, _-_, _≤_}
 use native.Mathlib.Omega.{arith}
-use Rattle.sheet_text.specs.Shown.{endOver, endsOver, endsShown, EndsFit}
+use Rattle.sheet_text.specs.Printed.{endOver, endsOver, endsPrinted, EndsFit}
 use Rattle.sheet_numbers.proofs.Writing.{Writing, writing-none, writing-on, writing-long, writing-done}
 use Rattle.sheet_text.proofs.Showing.{ends-whole, fit-whole, ends-grow, ends-on, ends-next, fit-here, ends-end, ends-none}
 use borrow.Author.Needs.{needs}
@@ -10,7 +10,7 @@ use Rattle.sheet_text.proofs.put_ends.Statement.{statement}
 use Rattle.sheet_text.proofs.put_ends.Tie as tie
 
 abbrev Inv-loop : tie.InvT-loop
-Inv-loop t table s n out₀ to p₀ next₀ k₀ out p next k = (k ≤ n) × (next + 16 ≤ to + 4 * p) × (endsOver s p (n - k) ≡ endsOver s 4 n) × EndsFit t s p (n - k) × Writing out₀ to (endsShown t s 4 0 n) (endsShown t s p k (n - k)) out next
+Inv-loop t table s n out₀ to p₀ next₀ k₀ out p next k = (k ≤ n) × (next + 16 ≤ to + 4 * p) × (endsOver s p (n - k) ≡ endsOver s 4 n) × EndsFit t s p (n - k) × Writing out₀ to (endsPrinted t s 4 0 n) (endsPrinted t s p k (n - k)) out next
 
 abbrev μ-loop : tie.MeasureT-loop
 μ-loop t table s n out₀ to p₀ next₀ k₀ out p next k = n - k

@@ -2,7 +2,7 @@
 use mathlib.Core.Path.{_≡_, sym, _∙_}
 use Prim.Native.Nat.{_+_, _*_, _-_, _≤_}
 use native.Mathlib.Omega.{arith}
-use Rattle.sheet_text.specs.Shown.{pathsOver, pathsShown, pathOver}
+use Rattle.sheet_text.specs.Printed.{pathsOver, pathsPrinted, pathOver}
 use Rattle.sheet_numbers.proofs.Writing.{Writing, writing-none, writing-on, writing-long, writing-done}
 use Rattle.sheet_text.proofs.Showing.{paths-whole, paths-grow, paths-on, paths-next, paths-end, paths-none}
 use borrow.Author.Needs.{needs}
@@ -10,7 +10,7 @@ use Rattle.sheet_text.proofs.put_paths.Statement.{statement}
 use Rattle.sheet_text.proofs.put_paths.Tie as tie
 
 abbrev Inv-loop : tie.InvT-loop
-Inv-loop s start m out₀ to p₀ next₀ j₀ out p next j = (j ≤ m) × (next + 4 * start ≤ to + 4 * p) × (pathsOver s p (m - j) ≡ pathsOver s start m) × Writing out₀ to (pathsShown s start m) (pathsShown s p (m - j)) out next
+Inv-loop s start m out₀ to p₀ next₀ j₀ out p next j = (j ≤ m) × (next + 4 * start ≤ to + 4 * p) × (pathsOver s p (m - j) ≡ pathsOver s start m) × Writing out₀ to (pathsPrinted s start m) (pathsPrinted s p (m - j)) out next
 
 abbrev μ-loop : tie.MeasureT-loop
 μ-loop s start m out₀ to p₀ next₀ j₀ out p next j = m - j

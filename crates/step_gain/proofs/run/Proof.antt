@@ -1,8 +1,7 @@
 -- `run`: one node after the other. Assumes nothing.
-use Prim.Native.Nat.{_-_, _≤_}
-use mathlib.Core.Path.{_≡_, refl, sym, ap, _∙_}
+use Prim.Native.Nat.{ℕ, _-_, _≤_}
+use mathlib.Core.Path.{_≡_, refl, ap, _∙_}
 use mathlib.Core.Bool.{_&&_, cond}
-use mathlib.Core.Logic.{⊎-elim}
 use native.Mathlib.Omega.{arith}
 use lib.ListN.{set}
 use Rattle.paper.specs.Lists.{at}
@@ -10,7 +9,7 @@ use Rattle.paper.specs.Table.{nodes, kind as kindOf, isAction}
 use Rattle.words.specs.Marks.{isMarked}
 use Rattle.marking_held.specs.declared.Held.{Held}
 use Rattle.marking_held.specs.Filling.{Filled}
-use Rattle.marking_held.proofs.Fillings.{filled-none, filled-set, filled-skip}
+use Rattle.marking_held.proofs.Fillings.{filled-none, filled-set}
 use Rattle.step_gain.specs.Gains.{starts}
 use Rattle.step_gain.proofs.Touching.{started-marked}
 use Rattle.step_gain.proofs.GainedHeld.{startedHeld, started-lengths, started-held}
@@ -44,11 +43,17 @@ loop-holds c = let t = entry c .args .t .now in
     let x = entry c .args .t5 in
     (omega arith, refl, filled-none (λ i. cond (isAction (kindOf t i) && isMarked (c .touched-nodes .result) i) 1 (at (x .runs) i)) (x .runs))
 
-array-read-is-started : tie.Need-array-read-is-started Inv-loop μ-loop
-array-read-is-started c = search needs
+kind-requires : tie.Need-kind-requires Inv-loop μ-loop
+kind-requires c κs = search needs
 
-is-started-requires : tie.Need-is-started-requires Inv-loop μ-loop
-is-started-requires c κs = search needs
+array-read-runs-then : tie.Need-array-read-runs-then Inv-loop μ-loop
+array-read-runs-then c = search needs
+
+element-copy-out-runs-then : tie.Need-element-copy-out-runs-then Inv-loop μ-loop
+element-copy-out-runs-then c = search needs
+
+runs-then-requires : tie.Need-runs-then-requires Inv-loop μ-loop
+runs-then-requires c κs = search needs
 
 element-write-held : tie.Need-element-write-held Inv-loop μ-loop
 element-write-held c = search needs
@@ -60,18 +65,18 @@ loop-less : tie.Need-loop-less Inv-loop μ-loop
 loop-less c = search needs
 
 loop-again : tie.Need-loop-again Inv-loop μ-loop
-loop-again c = let l = c .before .before .before in
+loop-again c = let l = c .before .before .before .before in
     let s = l .loop in
-    let e = sym (c .before .is-started .ensures) in
-    let h = entry (l .before) .pre .2 .runs-long in
-    ⊎-elim
-    (λ w. (
+    let v = c .runs-then .result in
+    let b = entry (l .before) in
+    let k : c .before .before .kind .result ≡ kindOf (b .args .t .now) (s .i) = c .before .before .kind .ensures .0 in
+    let e = c .runs-then .ensures
+    ∙ ap (λ (x : ℕ). cond (isAction x && isMarked (l .before .touched-nodes .result) (s .i)) 1 (at (s .held .runs) (s .i))) k
+    ∙ ap (cond (isAction (kindOf (b .args .t .now) (s .i)) && isMarked (l .before .touched-nodes .result) (s .i)) 1) (s .inv .2 .rest (s .i) (omega arith)) in (
       omega arith,
-      rw (w .1) (ap (λ (z : Held). startedHeld z (set (s .held .runs) (s .i) 1)) (s .inv .1)),
-      rw (w .1) (filled-set (s .inv .2) 1 (omega (arith, s .inv .2 .long, h)) (sym (rw (e ∙ w .0 .taken)))),
-    ))
-    (λ w. (omega arith, rw (w .1) (s .inv .1), rw (w .1) (filled-skip (s .inv .2) (sym (rw (e ∙ w .0 .left))))))
-    (c .if1 .came)
+      ap (λ (z : Held). startedHeld z (set (s .held .runs) (s .i) v)) (s .inv .1),
+      filled-set (s .inv .2) v (omega (arith, s .inv .2 .long, b .pre .2 .runs-long)) e,
+    )
 
 returns : tie.Need-returns Inv-loop μ-loop
 returns c = let b = entry (c .before .before) in
@@ -94,8 +99,10 @@ run-spec =
     slice-aggregate-touched-nodes-2
     touched-nodes-requires
     loop-holds
-    array-read-is-started
-    is-started-requires
+    kind-requires
+    array-read-runs-then
+    element-copy-out-runs-then
+    runs-then-requires
     element-write-held
     add-i
     loop-less

@@ -1,10 +1,7 @@
--- `spend_stocks`: one node after the other; each is asked before it is changed. Assumes nothing.
+-- `spend_stocks`: one node after the other. Assumes nothing.
 use Prim.Native.Nat.{_-_, _≤_}
-use mathlib.Core.Path.{sym, _∙_}
-use mathlib.Core.Logic.{⊎-elim}
 use native.Mathlib.Omega.{arith}
-use Rattle.paper.specs.Lists.{at}
-use Rattle.step_spend.proofs.SpentHeld.{OldestGone, oldest-none, oldest-set, oldest-skip, oldest-lengths, oldest-held, goes-some}
+use Rattle.step_spend.proofs.SpentHeld.{OldestGone, oldest-none, oldest-next, oldest-lengths, oldest-held}
 use borrow.Author.Needs.{needs}
 use Rattle.step_spend.proofs.spend_stocks.Statement.{statement}
 use Rattle.step_spend.proofs.spend_stocks.Tie as tie
@@ -25,23 +22,20 @@ losing-nodes-requires c κs = search needs
 loop-holds : tie.Need-loop-holds Inv-loop μ-loop
 loop-holds c = (omega arith, oldest-none (c .losing-nodes .result) (start c .args .t4))
 
-array-read-oldest-goes : tie.Need-array-read-oldest-goes Inv-loop μ-loop
-array-read-oldest-goes c = search needs
+array-read-from-left : tie.Need-array-read-from-left Inv-loop μ-loop
+array-read-from-left c = search needs
 
-element-copy-out-oldest-goes : tie.Need-element-copy-out-oldest-goes Inv-loop μ-loop
-element-copy-out-oldest-goes c = search needs
+element-copy-out-from-left : tie.Need-element-copy-out-from-left Inv-loop μ-loop
+element-copy-out-from-left c = search needs
 
-oldest-goes-requires : tie.Need-oldest-goes-requires Inv-loop μ-loop
-oldest-goes-requires c κs = search needs
+mul-from-left : tie.Need-mul-from-left Inv-loop μ-loop
+mul-from-left c = search needs
 
-mul-second-value : tie.Need-mul-second-value Inv-loop μ-loop
-mul-second-value c = search needs
+element-copy-out-from-left-2 : tie.Need-element-copy-out-from-left-2 Inv-loop μ-loop
+element-copy-out-from-left-2 c = search needs
 
-element-copy-out-second-value : tie.Need-element-copy-out-second-value Inv-loop μ-loop
-element-copy-out-second-value c = search needs
-
-second-value-requires : tie.Need-second-value-requires Inv-loop μ-loop
-second-value-requires c κs = search needs
+from-left-requires : tie.Need-from-left-requires Inv-loop μ-loop
+from-left-requires c κs = search needs
 
 mul-held : tie.Need-mul-held Inv-loop μ-loop
 mul-held c = search needs
@@ -49,13 +43,14 @@ mul-held c = search needs
 element-write-held : tie.Need-element-write-held Inv-loop μ-loop
 element-write-held c = search needs
 
-element-copy-out-held : tie.Need-element-copy-out-held Inv-loop μ-loop
-element-copy-out-held c = search needs
+array-read-kept-left : tie.Need-array-read-kept-left Inv-loop μ-loop
+array-read-kept-left c = search needs
 
-sub-held : tie.Need-sub-held Inv-loop μ-loop
-sub-held c = let l = c .before .before .before .before .before .before .before in
-    goes-some (at (l .before .losing-nodes .result) (l .loop .i)) (at (l .loop .held .kept) (l .loop .i))
-    (sym (c .before .before .before .before .oldest-goes .ensures) ∙ c .before .before .before .if1 .taken)
+element-copy-out-kept-left : tie.Need-element-copy-out-kept-left Inv-loop μ-loop
+element-copy-out-kept-left c = search needs
+
+kept-left-requires : tie.Need-kept-left-requires Inv-loop μ-loop
+kept-left-requires c κs = search needs
 
 element-write-held-2 : tie.Need-element-write-held-2 Inv-loop μ-loop
 element-write-held-2 c = search needs
@@ -66,18 +61,16 @@ add-i c = search needs
 loop-less : tie.Need-loop-less Inv-loop μ-loop
 loop-less c = search needs
 
+-- the way back to the loop
+abbrev turn : tie.After-kept-left Inv-loop μ-loop → tie.At-loop Inv-loop μ-loop
+turn c = c .before .before .before .before .before .before
+
 loop-again : tie.Need-loop-again Inv-loop μ-loop
-loop-again c = let l = c .before .before .before .before .loop in
-    let s = start (c .before .before .before .before .before) in
-    let g = l .inv .1 in
-    let h = oldest-lengths g (s .pre .2) in
-    let e = sym (c .before .oldest-goes .ensures) in (
-      omega arith,
-      ⊎-elim
-          (λ w. rw (w .4) (oldest-set g (omega (arith, h .from-long)) (omega (arith, h .kept-long)) (e ∙ w .0 .taken) (w .2 .result) (w .2 .ensures)))
-          (λ w. rw (w .1) (oldest-skip g (e ∙ w .0 .left)))
-          (c .if1 .came),
-    )
+loop-again c = let l = turn c in
+    let g = l .loop .inv .1 in
+    let h = oldest-lengths g (start (l .before) .pre .2) in
+    let f = c .before .before .from-left in
+    (omega arith, oldest-next g (omega (arith, h .from-long)) (omega (arith, h .kept-long)) (f .result) (c .kept-left .result) (f .ensures) (c .kept-left .ensures))
 
 returns : tie.Need-returns Inv-loop μ-loop
 returns c = let g = c .before .loop .inv .1 in
@@ -96,16 +89,16 @@ spend-stocks-spec =
     μ-loop
     losing-nodes-requires
     loop-holds
-    array-read-oldest-goes
-    element-copy-out-oldest-goes
-    oldest-goes-requires
-    mul-second-value
-    element-copy-out-second-value
-    second-value-requires
+    array-read-from-left
+    element-copy-out-from-left
+    mul-from-left
+    element-copy-out-from-left-2
+    from-left-requires
     mul-held
     element-write-held
-    element-copy-out-held
-    sub-held
+    array-read-kept-left
+    element-copy-out-kept-left
+    kept-left-requires
     element-write-held-2
     add-i
     loop-less

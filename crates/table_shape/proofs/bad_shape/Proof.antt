@@ -10,7 +10,7 @@ use Rattle.paper.specs.Limits.{limits}
 use Rattle.paper.specs.Table.{nodes, shapeFine}
 use Rattle.table_shape.specs.Shape.{Counts}
 use Rattle.table.proofs.Reading.{blank, fails-at, fails-nowhere}
-use Rattle.table_shape.proofs.Chains.{fine-framed, rank-tells}
+use Rattle.table_ranks.proofs.Chains.{fine-framed, rank-tells}
 use Rattle.table_shape.proofs.bad_shape.Statement.{statement}
 use Rattle.table_shape.proofs.bad_shape.Tie as tie
 

@@ -1,0 +1,2 @@
+-- What it means that destinations agree.
+pub mod Agreeing

@@ -1,0 +1,2 @@
+-- Laws on the order of ends.
+pub mod Order

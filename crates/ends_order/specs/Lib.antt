@@ -1,0 +1,2 @@
+-- What the order of ends promises.
+pub mod Order

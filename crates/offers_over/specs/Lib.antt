@@ -1,0 +1,2 @@
+-- What goes over an edge: the words that the promises use.
+pub mod Over

@@ -1,0 +1,2 @@
+-- Laws of chains and ranks.
+pub mod Chains

@@ -1,0 +1,2 @@
+-- What ranks are.
+pub mod Chains
