@@ -4,18 +4,18 @@ use std::env;
 use std::path::{Path, PathBuf};
 use std::process::Command;
 
-/// The archive that this test is linked with.
+/// The archive that the tests are linked with.
 pub fn archive() -> PathBuf {
     PathBuf::from(env!("KESHMIRUN_LINKED"))
 }
 
-/// Compiles a C file of this folder to an object file.
+/// Compiles a C file that stands beside the tests to an object file.
 pub fn compiled(source: &str) -> PathBuf {
     let here = Path::new(env!("CARGO_MANIFEST_DIR"));
     let object = in_folder(&format!("{source}.o"));
     let mut compiler = compiler();
     compiler.args(["-std=c99", "-Wall", "-Wextra", "-Werror", "-pedantic", "-c", "-I"]);
-    compiler.arg(here.join("include")).arg(here.join("tests").join(source)).arg("-o").arg(&object);
+    compiler.arg(here.join("include")).arg(here.join("tests/keshmirun").join(source)).arg("-o").arg(&object);
     assert!(compiler.status().expect("a C compiler, named by CC or cc").success(), "{source}");
     object
 }

@@ -3,14 +3,12 @@
 //!
 //! Every answer is held to `pick`'s, which is refused with 13 exactly if there is a reason, and a refused call to `sheet`'s.
 
-mod common;
-
-use common::drawn::*;
-use common::held::AROUND;
-use common::points::{self, Walk};
-use common::second::Second;
-use common::vectors::{all, Call, Operation};
-use common::{answered, limits, pairings, rounds, whys, within};
+use crate::common::drawn::*;
+use crate::common::held::AROUND;
+use crate::common::points::{self, Walk};
+use crate::common::second::Second;
+use crate::common::vectors::{all, Call, Operation};
+use crate::common::{answered, limits, pairings, rounds, whys, within};
 use keshmirun::Reason::{self, Acceptable, Competing, Destinations, Forks, NoEnd, OwnDestination};
 use keshmirun::{bounds_list, Terms, NO_BOUNDS, NO_NODE};
 use reading::random::Event;
@@ -27,12 +25,12 @@ impl Point {
         for node in 0..=NO_NODE {
             let named = expected.iter().find(|(named, _)| *named == node);
             let other = if node == NO_NODE { Acceptable } else { NoEnd };
-            self.hold(bounds, node, named.map_or(other, |(_, reason)| *reason));
+            self.assert_reason(bounds, node, named.map_or(other, |(_, reason)| *reason));
         }
     }
 
     /// The reading gives this reason, and so does the engine in any room but none.
-    fn hold(&self, bounds: &[u8], node: u8, reason: Reason) {
+    fn assert_reason(&self, bounds: &[u8], node: u8, reason: Reason) {
         let Point { table, marking, guards } = self;
         let answer = Answer::Good(vec![reason.number()]);
         let read = reading::why_within(table, marking, guards, bounds, node, ROOM, BUDGET);

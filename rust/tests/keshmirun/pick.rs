@@ -5,10 +5,8 @@
 //! The second way gives the answer; where the ends are few, so does the reading's judge on every set of ends, and elsewhere the reading's pick, where it is
 //! not too long.
 
-mod common;
-
-use common::points::Walk;
-use common::{limits, picks};
+use crate::common::points::Walk;
+use crate::common::{limits, picks};
 use reading::random::Event;
 
 #[test]

@@ -2,9 +2,8 @@
 //! each row refuses. It reads the first 8,192 bytes at most, and all that it prints is the paper's text of what the plain reading answers for their parts,
 //! without bounds.
 
-mod common;
-
-use common::points::{varied, Walk, BUDGET};
+use crate::common::limits;
+use crate::common::points::{varied, Walk, BUDGET};
 use reading::random::{Event, Rng};
 use reading::{pick_within, sheet_within, Answer, NO_BOUNDS, NO_NODE};
 use std::collections::BTreeMap;
@@ -207,7 +206,7 @@ fn refused_by_each_row() {
 fn random_events() {
     let (mut rng, mut walk, mut seen, mut skipped) = (Rng::new(81), Walk::default(), BTreeMap::new(), 0);
     for number in 0..90 {
-        let event = if number % 3 == 0 { common::limits::event(&mut rng) } else { walk.next(&mut rng) };
+        let event = if number % 3 == 0 { limits::event(&mut rng) } else { walk.next(&mut rng) };
         let Event { table, marking, guards, .. } = varied(&mut rng, &event);
         match compared(&[table, marking, guards].concat()) {
             Some(number) => *seen.entry(number).or_insert(0) += 1,

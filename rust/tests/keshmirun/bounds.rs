@@ -2,12 +2,10 @@
 //! every damage of a bounds list, in which order 18 is judged, and that bounds which bar nothing change nothing. Every call is held to an answer that is
 //! written here, and to the plain reading of the paper where it isn't too long for that.
 
-mod common;
-
-use common::drawn::*;
-use common::points::Walk;
-use common::vectors::{all, Call, Operation};
-use common::{answered, limits, whys};
+use crate::common::drawn::*;
+use crate::common::points::Walk;
+use crate::common::vectors::{all, Call, Operation};
+use crate::common::{answered, limits, whys};
 use keshmirun::{bounds_list, Refusal, Terms, NO_BOUNDS, NO_NODE};
 use reading::random::{choice, Event, Parts, Rng};
 use reading::Answer;

@@ -3,17 +3,14 @@
 //! of the paper. Then random events: sheets are in that order and have the reading's ends; values arrive at each stock by last edge and paths; picks are the
 //! second way's (`common/second.rs`) and the reading's, and others than those among ends by last edge.
 
-mod common;
-#[path = "../examples/events/mod.rs"]
-mod events;
-
-use common::arrivals::{self, by_edge};
-use common::drawn::*;
-use common::held::AROUND;
-use common::points::{Walk, BUDGET};
-use common::second::Second;
-use common::vectors::Operation;
-use common::{answered, pairings, rounds, steps};
+use crate::common::arrivals::{self, by_edge};
+use crate::common::drawn::*;
+use crate::common::held::AROUND;
+use crate::common::points::{Walk, BUDGET};
+use crate::common::second::Second;
+use crate::common::vectors::Operation;
+use crate::common::{answered, pairings, rounds, steps};
+use crate::events;
 use keshmirun::Reason::{Acceptable, Competing, Destinations, Forks, NoEnd, OwnDestination};
 use keshmirun::{bounds_list, Terms, NO_BOUNDS, NO_NODE};
 use reading::random::{Event, Parts, Rng};

@@ -2,14 +2,12 @@
 //! vectors and of the worst events known for the searches of pick and why, an event with everything at its limit, one with the longest bounds list, and random
 //! ones near the sizes.
 
-mod common;
-#[path = "../examples/events/mod.rs"]
-mod events;
-#[path = "../examples/events/stack.rs"]
+#[path = "../../examples/events/stack.rs"]
 mod stack;
 
-use common::vectors::{all, Call};
-use common::{limits, points};
+use crate::common::vectors::{all, Call};
+use crate::common::{limits, points};
+use crate::events;
 use keshmirun::{bounds_list, Refusal, Terms, NO_NODE};
 use reading::random::{Event, Rng};
 use stack::taken;

@@ -1,10 +1,8 @@
 //! `sheet` against the plain reading of the paper, with fixed seeds: whole random events, markings from anywhere, tables at the sizes' limits, with bounds
 //! and without, good and damaged inputs, room to spare, exact and one short.
 
-mod common;
-
-use common::points::{varied, Walk, BUDGET};
-use common::{called, limits, room, within, Seen};
+use crate::common::points::{varied, Walk, BUDGET};
+use crate::common::{called, limits, room, within, Seen};
 use keshmirun::{Refusal, Terms};
 use reading::random::{Event, Parts, Rng};
 

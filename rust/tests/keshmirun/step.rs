@@ -1,10 +1,8 @@
 //! `step` against the plain reading of the paper, with fixed seeds: right and wrong choices at the points of whole random events, at markings from anywhere and
 //! near the sizes' limits, with bounds and without, good and damaged inputs, room to spare, exact and one short. Each refusal is held to its place.
 
-mod common;
-
-use common::points::Walk;
-use common::{limits, steps};
+use crate::common::points::Walk;
+use crate::common::{limits, steps};
 use reading::random::Event;
 
 #[test]

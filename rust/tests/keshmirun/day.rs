@@ -1,7 +1,7 @@
 //! The example's day ends with its standings.
 
 #[allow(dead_code)] // its main
-#[path = "../examples/day.rs"]
+#[path = "../../examples/day.rs"]
 mod day;
 
 #[test]

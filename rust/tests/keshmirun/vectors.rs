@@ -1,10 +1,8 @@
 //! The outside calls that the program `vectors` answers, made through the crate: the archive of this processor gives the same answers, to the byte.
 
-mod common;
-
-use common::points::BUDGET;
-use common::rounds;
-use common::vectors::{all, Call, Operation};
+use crate::common::points::BUDGET;
+use crate::common::rounds;
+use crate::common::vectors::{all, Call, Operation};
 use keshmirun::Refusal;
 use reading::{Answer, Board};
 use std::collections::BTreeMap;

@@ -1,9 +1,7 @@
 //! `start` against the plain reading of the paper, with fixed seeds: good and damaged tables, good and spoiled values, room to spare, exact and
 //! one short.
 
-mod common;
-
-use common::{called, room, within, Seen};
+use crate::common::{called, room, within, Seen};
 use reading::random::{damaged, table, values, Rng};
 
 /// Calls on so many random tables, four on each, with one table in `times` damaged.

@@ -1,10 +1,8 @@
 //! `finish` against the plain reading of the paper, with fixed seeds: whole random events and markings from anywhere, running and idle actions, good and
 //! damaged markings, edge counts up to 254 and 255, good and spoiled values, room to spare, exact and one short.
 
-mod common;
-
-use common::points::Walk;
-use common::{called, room, within, Seen};
+use crate::common::points::Walk;
+use crate::common::{called, room, within, Seen};
 use reading::random::{damaged, damaged_bytes, outputs, Event, Rng};
 
 /// Most often an action that runs; at times any number.

@@ -1,9 +1,6 @@
 //! `include/keshmirun.h` compiled by a C compiler, its seven calls made from C, also beside a library that has a `check`, `start` and `step` of its own.
 
-#[path = "common/programs.rs"]
-mod programs;
-
-use programs::{archive, compiled, ran};
+use crate::common::programs::{archive, compiled, ran};
 
 #[test]
 fn seven_calls() {

@@ -1,4 +1,4 @@
-//! A program that has functions `check`, `start`, `step` .. of its own under their plain names, beside the crate's: each call reaches the one that is meant.
+//! This program has functions `check`, `start`, `step` .. of its own under their plain names, beside the crate's: each call reaches the one that is meant.
 
 use keshmirun::{Reason, Terms};
 

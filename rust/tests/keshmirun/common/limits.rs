@@ -11,7 +11,6 @@ const JOIN: u8 = 11;
 const FLOW_FINAL: u8 = 12;
 
 const CONTROL: u8 = 0;
-const OBJECT: u8 = 1;
 
 /// An event near one of the sizes, in a random numbering. All its sources are full, as a rule.
 pub fn event(rng: &mut Rng) -> Event {

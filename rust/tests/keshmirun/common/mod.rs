@@ -1,7 +1,5 @@
 //! Lent slices amid other bytes, and answers of the plain reading as the crate gives them.
 
-#![allow(dead_code)] // each test uses its part
-
 pub mod arrivals;
 pub mod drawn;
 pub mod held;
@@ -9,6 +7,7 @@ pub mod limits;
 pub mod pairings;
 pub mod picks;
 pub mod points;
+pub mod programs;
 pub mod rounds;
 pub mod second;
 pub mod steps;

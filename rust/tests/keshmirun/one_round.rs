@@ -2,12 +2,10 @@
 //! through. Which offers are of one round, what is spent and gained, what happens behind such a join, and that all other offers of a join compete as before.
 //! Every call is held to an answer that is written here and to the plain reading of the paper. Then `step` and `pick` beside the reading at random rounds.
 
-mod common;
-
-use common::drawn::*;
-use common::held::AROUND;
-use common::vectors::Operation;
-use common::{picks, rounds, steps};
+use crate::common::drawn::*;
+use crate::common::held::AROUND;
+use crate::common::vectors::Operation;
+use crate::common::{picks, rounds, steps};
 use keshmirun::{bounds_list, NO_BOUNDS, NO_NODE};
 use reading::Answer;
 
