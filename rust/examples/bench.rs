@@ -1,9 +1,9 @@
-//! The seven operations timed beside the plain reading of the paper, in one run and build: the small event, a day of 41 nodes and 40 edges with 11 ends, the
-//! limits, and events on which joins or picks are hard: forks of decisions, and what was hunted for by climbing (`crates/vectors/worst.txt`). Prints medians
-//! in microseconds, how many times as long the reading takes, the bytes of stack that the engine's call takes, and for the last the states that the searches
-//! of pick and why visit (why's at its levels before the last, all in all): the archive doesn't count them, the gate holds the engine to the numbers of that
-//! file. The day's sheet and pick are timed under a long bounds list too, and a line says how many times as long that takes as without bounds. Lines say how
-//! many times as long why takes as pick for the same node.
+//! The seven operations timed beside the plain reading of the paper, in one run and build: the small event, a day of 41 nodes and 40 edges with 11 ends, 48
+//! nodes and 64 edges ("limits") and 120 and 200 ("larger") with 64 offers and 20 ends, and events on which joins or picks are hard: forks of decisions,
+//! and what was hunted for by climbing (`crates/vectors/worst.txt`). Prints medians in microseconds, how many times as long the reading takes, the bytes of
+//! stack that the engine's call takes, and for the last the states that the searches of pick and why visit (why's at its levels before the last, all in
+//! all): the archive doesn't count them, the gate holds the engine to the numbers of that file. The day's sheet and pick are timed under a long bounds list
+//! too, and a line says how many times as long that takes as without bounds. Lines say how many times as long why takes as pick for the same node.
 //!
 //!     cargo run --release --example bench
 
@@ -16,7 +16,7 @@ mod stack;
 
 use events::list;
 use hard::HARD;
-use keshmirun::{bounds_list, Refusal, Terms, NO_BOUNDS, NO_NODE};
+use keshmirun::{bounds_list, Refusal, Room, Terms, NO_BOUNDS, NO_NODE};
 use reading::Answer;
 use std::time::{Duration, Instant};
 
@@ -51,7 +51,8 @@ fn main() -> Result<(), Refusal> {
     let day = day()?;
     let without = all_seven(&day);
     under_bounds(&day, without);
-    all_seven(&limits()?);
+    all_seven(&limits());
+    all_seven(&larger());
     for (number, event) in HARD.iter().enumerate() {
         let name = format!("hard {}", number + 1);
         let (table, marking, guards) = (hex(event.table), hex(event.marking), hex(event.guards));
@@ -85,7 +86,7 @@ fn worst() -> impl Iterator<Item = (f64, Option<f64>)> {
             &name,
             words[4],
             |out| keshmirun::pick(&table, &marking, Terms::new(&guards), node, out),
-            || reading::pick_within(&table, &marking, &guards, &NO_BOUNDS, node, 4096, BUDGET),
+            || reading::pick_within(&table, &marking, &guards, &NO_BOUNDS, node, Room::CHOICE, BUDGET),
         );
         let levels: usize = words[5..].iter().map(|states| states.parse::<usize>().expect("a number")).sum();
         (pick, (node != NO_NODE).then(|| why(&name, &levels.to_string(), &table, &marking, &guards, node)))
@@ -121,16 +122,23 @@ fn day() -> Result<Point, Refusal> {
     Ok(Point { name: String::from("day"), table, values, marking, guards, choice, node: 10, running, action: 10, results })
 }
 
-fn limits() -> Result<Point, Refusal> {
+fn limits() -> Point {
     let table = events::limits().table;
     let (marking, running) = (events::limits_marking(false), events::limits_marking(true));
     let (guards, choice) = (vec![1; 64], (0..20).collect());
-    Ok(Point { name: String::from("limits"), table, values: Vec::new(), marking, guards, choice, node: 12, running, action: 13, results: Vec::new() })
+    Point { name: String::from("limits"), table, values: Vec::new(), marking, guards, choice, node: 12, running, action: 13, results: Vec::new() }
+}
+
+fn larger() -> Point {
+    let table = events::larger().table;
+    let (marking, running) = (events::larger_marking(false), events::larger_marking(true));
+    let (guards, choice) = (vec![1; 200], (0..20).collect());
+    Point { name: String::from("larger"), table, values: Vec::new(), marking, guards, choice, node: 119, running, action: 106, results: Vec::new() }
 }
 
 /// What an operation writes.
 fn written(operation: impl Fn(&mut [u8]) -> Result<usize, Refusal>) -> Result<Vec<u8>, Refusal> {
-    let mut out = [0; 4096];
+    let mut out = [0; Room::MARKING];
     let length = operation(&mut out)?;
     Ok(out[..length].to_vec())
 }
@@ -139,7 +147,7 @@ fn written(operation: impl Fn(&mut [u8]) -> Result<usize, Refusal>) -> Result<Ve
 fn all_seven(point: &Point) -> [f64; 2] {
     let Point { name, table, values, marking, guards, choice, node, running, action, results } = point;
     row("check", name, "", |_| keshmirun::check(table).map(|_| 0), || Some(reading::check(table)));
-    row("start", name, "", |out| keshmirun::start(table, values, out), || Some(reading::start(table, values, 4096)));
+    row("start", name, "", |out| keshmirun::start(table, values, out), || Some(reading::start(table, values, Room::MARKING)));
     let sheet = sheet(name, table, marking, guards, &NO_BOUNDS);
     let none_named = pick(name, table, marking, guards, &NO_BOUNDS, NO_NODE);
     let for_node = format!("{name} for {node}");
@@ -151,14 +159,14 @@ fn all_seven(point: &Point) -> [f64; 2] {
         name,
         "",
         |out| keshmirun::step(table, marking, Terms::new(guards), choice, out),
-        || reading::step_within(table, marking, guards, &NO_BOUNDS, choice, 4096, BUDGET),
+        || reading::step_within(table, marking, guards, &NO_BOUNDS, choice, Room::MARKING, BUDGET),
     );
     row(
         "finish",
         name,
         "",
         |out| keshmirun::finish(table, running, *action, results, out),
-        || Some(reading::finish(table, running, *action, results, 4096)),
+        || Some(reading::finish(table, running, *action, results, Room::MARKING)),
     );
     [sheet, none_named]
 }
@@ -180,7 +188,7 @@ fn sheet(name: &str, table: &[u8], marking: &[u8], guards: &[u8], bounds: &[u8])
         name,
         "",
         |out| keshmirun::sheet(table, marking, Terms::new(guards).with_bounds(bounds), out),
-        || reading::sheet_within(table, marking, guards, bounds, 4096, BUDGET),
+        || reading::sheet_within(table, marking, guards, bounds, Room::SHEET, BUDGET),
     )
 }
 
@@ -190,7 +198,7 @@ fn pick(name: &str, table: &[u8], marking: &[u8], guards: &[u8], bounds: &[u8], 
         name,
         "",
         |out| keshmirun::pick(table, marking, Terms::new(guards).with_bounds(bounds), node, out),
-        || reading::pick_within(table, marking, guards, bounds, node, 4096, BUDGET),
+        || reading::pick_within(table, marking, guards, bounds, node, Room::CHOICE, BUDGET),
     )
 }
 
@@ -204,7 +212,7 @@ fn why(name: &str, states: &str, table: &[u8], marking: &[u8], guards: &[u8], no
             out[0] = reason.number();
             Ok(1)
         },
-        || reading::why_within(table, marking, guards, &NO_BOUNDS, node, 4096, SETS),
+        || reading::why_within(table, marking, guards, &NO_BOUNDS, node, 1, SETS),
     )
 }
 
@@ -216,7 +224,7 @@ fn row(
     engine: impl Fn(&mut [u8]) -> Result<usize, Refusal> + Sync,
     plain: impl Fn() -> Option<Answer>,
 ) -> f64 {
-    let mut out = [0; 4096];
+    let mut out = [0; Room::MARKING];
     let answer = match engine(&mut out) {
         Ok(length) => Answer::Good(out[..length].to_vec()),
         Err(Refusal { number, place }) => Answer::Refused { number, place },
@@ -228,7 +236,7 @@ fn row(
     let bound = if read.is_none() { ">" } else { "" };
     let deep = stack::taken(|| {
         // what is lent stands elsewhere
-        let mut lent = vec![0; 4096];
+        let mut lent = vec![0; Room::MARKING];
         let _ = engine(&mut lent);
     });
     println!(

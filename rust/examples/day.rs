@@ -6,7 +6,7 @@
 mod events;
 
 use events::{list, Event, TO_RESERVE};
-use keshmirun::{Refusal, Terms, NO_NODE};
+use keshmirun::{Refusal, Room, Terms, NO_NODE};
 
 fn main() {
     match play(&[40, 17, 23, 8, 31]) {
@@ -18,7 +18,7 @@ fn main() {
 /// Plays the day with these players until it has ended or nothing more can happen, and tells what was seen.
 pub fn play(entrants: &[u32]) -> Result<String, Refusal> {
     let event = events::day();
-    let mut marking = vec![0; 4096];
+    let mut marking = vec![0; Room::MARKING];
     let length = keshmirun::start(&event.table, &list(entrants), &mut marking)?;
     marking.truncate(length);
     let mut guards = vec![1; usize::from(event.table[4])];
@@ -52,12 +52,12 @@ impl Day {
     /// Takes what the engine picks; false if that is nothing.
     fn take(&mut self) -> Result<bool, Refusal> {
         let terms = Terms::new(&self.guards);
-        let mut sheet = [0; 4096];
+        let mut sheet = [0; Room::SHEET];
         let length = keshmirun::sheet(&self.event.table, &self.marking, terms, &mut sheet)?;
         let ends = self.ends(&sheet[..length]);
-        let mut choice = [0; 20];
+        let mut choice = [0; Room::CHOICE];
         let taken = keshmirun::pick(&self.event.table, &self.marking, terms, NO_NODE, &mut choice)?;
-        let mut next = [0; 4096];
+        let mut next = [0; Room::MARKING];
         let length = keshmirun::step(&self.event.table, &self.marking, terms, &choice[..taken], &mut next)?;
         self.tell_sheet(&ends, &choice[..taken]);
         self.marking = next[..length].to_vec();
@@ -74,7 +74,7 @@ impl Day {
         let mut players: Vec<u32> = pins.into_iter().flat_map(|pin| self.held(pin)).collect();
         players.sort_unstable();
         let results: Vec<u8> = players.iter().flat_map(|player| list(&[*player])).collect();
-        let mut next = [0; 4096];
+        let mut next = [0; Room::MARKING];
         let length = keshmirun::finish(&self.event.table, &self.marking, action as u8, &results, &mut next)?;
         self.marking = next[..length].to_vec();
         self.guards[TO_RESERVE] = 1; // the first thing to finish is the call of the round

@@ -4,7 +4,7 @@
  * A slice is a pointer and a length. An operation reads its inputs, writes its reply to the front of `out`, and keeps nothing; a refused call
  * changes no byte. Inputs and `out` must not overlap. Formats and numbers are those of the paper "Token flow, tables and markings" and, for bounds, of
  * the wish "Guards that read the result"; which ends compete is the paper's with the wish "One round token for all tables"; reasons are those of the wish
- * "Why can't we pair?"; the order of ends is that of the wish "Group the sheet by destination". */
+ * "Why can't we pair?"; the order of ends is that of the wish "Group the sheet by destination"; how large tables may be is as the wish "Larger events" says. */
 #ifndef KESHMIRUN_H
 #define KESHMIRUN_H
 
@@ -16,8 +16,9 @@ extern "C" {
 #endif
 
 /* The version of these calls; header and archive must be of the same. 1 had sheet, pick and step without bounds; those forms are gone. 2 had no why; what it
- * had is the same in 3. 4 has the calls of 3, but numbers ends by target node first: a choice that was written down with 3 may name other ends. */
-#define KESHMIRUN_VERSION 4
+ * had is the same in 3. 4 has the calls of 3, but numbers ends by target node first: a choice that was written down with 3 may name other ends. 5 has the
+ * calls of 4 and their answers, but takes larger tables, which 4 refused with 1, and whose markings may be longer than 4's KESHMIRUN_ROOM. */
+#define KESHMIRUN_VERSION 5
 
 /* Every operation answers one word: refusal * 2^48 + place * 2^32 + length. The refusal is 0 if there is none, and its place and the length are then 0
  * and what was written. */
@@ -36,9 +37,16 @@ extern "C" {
 #define KESHMIRUN_WHY_FORKS 4           /* none of those passes all forks whole */
 #define KESHMIRUN_WHY_DESTINATIONS 5    /* none of those satisfies all destinations */
 
-/* Room for any marking or sheet, and for any choice. */
-#define KESHMIRUN_ROOM 4096
+/* How many nodes and edges a table may have, and how many ends there may be. */
+#define KESHMIRUN_MOST_NODES 120
+#define KESHMIRUN_MOST_EDGES 200
 #define KESHMIRUN_MOST_ENDS 20
+
+/* Room for any marking, which start, step and finish write, for any sheet and for any choice; and for any reply. */
+#define KESHMIRUN_ROOM_MARKING 8192
+#define KESHMIRUN_ROOM_SHEET 4096
+#define KESHMIRUN_ROOM_CHOICE 20
+#define KESHMIRUN_ROOM 8192
 
 /* The bounds list of no edge: hand it on as `keshmirun_no_bounds, sizeof keshmirun_no_bounds` where values aren't bounded. An empty slice is no list. */
 #ifdef __GNUC__

@@ -6,10 +6,12 @@
 //! [`check`] judges a table, and [`start`] begins its activity. [`sheet`] shows the ends on offer, [`pick`] chooses among them, [`why`] says what is in the
 //! way where it can't, and [`step`] takes a choice. [`finish`] ends an action.
 
+mod limits;
 mod reason;
 mod refusal;
 mod terms;
 
+pub use limits::{Room, MOST_EDGES, MOST_NODES};
 pub use reason::Reason;
 pub use refusal::Refusal;
 pub use terms::{bounds_list, Terms, NO_BOUNDS};
@@ -107,7 +109,7 @@ fn unpacked(word: u64) -> Result<usize, Refusal> {
     }
 }
 
-/// Checks a diagram table.
+/// Checks a diagram table, which has up to [`MOST_NODES`] nodes and [`MOST_EDGES`] edges.
 ///
 /// # Errors
 /// Refusals 1 (frame, version, counts), 2 (a node's fields), 3 (an edge's fields or ends) and 4 (shape); the place is the lowest node or edge that breaks
@@ -130,7 +132,8 @@ pub fn check(table: &[u8]) -> Result<(), Refusal> {
 
 /// Writes the marking with which an activity begins to the front of `out`, and returns its length.
 ///
-/// `values` holds, for each incoming parameter in the table's order, a count and that many 4-byte values. A refused call leaves `out` as it was.
+/// `values` holds, for each incoming parameter in the table's order, a count and that many 4-byte values. [`Room::MARKING`] bytes hold any marking. A refused
+/// call leaves `out` as it was.
 ///
 /// # Errors
 /// Refusals 1 to 4 as for [`check`], 15 (the lists are cut, count over 16, or leave bytes), 16 (a stock over its upper) and 17 (`out` is shorter than the
@@ -139,7 +142,7 @@ pub fn check(table: &[u8]) -> Result<(), Refusal> {
 /// # Examples
 /// ```
 /// let table = [0, 15, 1, 2, 1, 1, 255, 0, 0, 2, 255, 0, 0, 0, 0, 1, 0];
-/// let mut out = [0; 4096];
+/// let mut out = [0; keshmirun::Room::MARKING];
 /// let length = keshmirun::start(&table, &[], &mut out).unwrap();
 /// // live, the action idle, and a token on the edge
 /// assert_eq!(out[..length], [0, 4, 1, 0, 0, 1]);
@@ -156,8 +159,8 @@ pub fn start(table: &[u8], values: &[u8], out: &mut [u8]) -> Result<usize, Refus
 ///
 /// [`Terms`] say over which edges tokens may go now, and with which values. The sheet is its length (2 bytes), version 1 and the number of ends; then, for each
 /// end in order, its last edge, 1 or 0 for value or none, four value bytes, the number of its paths, and each path as its length and its edges. Ends are
-/// ordered by target node, which for a pin is the pin and not its action, then by last edge, then by paths; they are numbered from 0. 4,096 bytes hold any
-/// sheet. A refused call leaves `out` as it was.
+/// ordered by target node, which for a pin is the pin and not its action, then by last edge, then by paths; they are numbered from 0. [`Room::SHEET`] bytes
+/// hold any sheet. A refused call leaves `out` as it was.
 ///
 /// # Errors
 /// In the order in which they are judged: refusals 1 to 4 as for [`check`], 5 (the bytes are no marking of the table), 6 (the activity has ended), 7 (the
@@ -175,7 +178,7 @@ pub fn start(table: &[u8], values: &[u8], out: &mut [u8]) -> Result<usize, Refus
 ///     0, 0, 3, 0, 1, 1, 2, 0, 1, 2, 3, 1, 1, 2, 6, 1, 1, 3, 4, 0,
 /// ];
 /// let marking = [0, 15, 1, 0, 2, 0, 0, 0, 7, 0, 0, 0, 9, 0, 0, 0, 1];
-/// let mut out = [0; 4096];
+/// let mut out = [0; keshmirun::Room::SHEET];
 /// let length = keshmirun::sheet(&table, &marking, Terms::new(&[1; 5]), &mut out).unwrap();
 /// // two ends, the pin's on edge 4 and the buffer's on edge 3, both with value 7; the first needs two paths, since a join brings them together
 /// let ends = [4, 1, 0, 0, 0, 7, 2, 2, 0, 4, 3, 1, 2, 4, 3, 1, 0, 0, 0, 7, 1, 2, 1, 3];
@@ -212,7 +215,7 @@ pub const NO_NODE: u8 = 255;
 ///
 /// With a node named it is the first that has an end of that node, or of a pin of it if it is an action; [`NO_NODE`] names none. Of two choices the one that
 /// holds the lowest end held by only one of them comes first. All results that wait at a join with one token may be in it. [`step`] takes what `pick` answers
-/// on the same terms. 20 bytes hold any choice. A refused call leaves `out` as it was.
+/// on the same terms. [`Room::CHOICE`] bytes hold any choice. A refused call leaves `out` as it was.
 ///
 /// # Errors
 /// Refusals 1 to 8 and 18 as for [`sheet`], 13 (a node is named and no acceptable choice has an end of it; the place is that node, and [`why`] says what is in
@@ -229,7 +232,7 @@ pub const NO_NODE: u8 = 255;
 ///     0, 0, 3, 0, 1, 1, 2, 0, 1, 2, 3, 1, 1, 2, 6, 1, 1, 3, 4, 0,
 /// ];
 /// let marking = [0, 15, 1, 0, 2, 0, 0, 0, 7, 0, 0, 0, 9, 0, 0, 0, 1];
-/// let mut out = [0; 20];
+/// let mut out = [0; keshmirun::Room::CHOICE];
 /// assert_eq!(keshmirun::pick(&table, &marking, Terms::new(&[1; 5]), keshmirun::NO_NODE, &mut out), Ok(1));
 /// assert_eq!(out[0], 0);
 ///
@@ -290,7 +293,7 @@ pub fn pick(table: &[u8], marking: &[u8], terms: Terms, node: u8, out: &mut [u8]
 /// let full = [0, 23, 1, 0, 2, 0, 0, 0, 7, 0, 0, 0, 9, 0, 0, 2, 0, 0, 0, 1, 0, 0, 0, 2, 1];
 /// assert_eq!(keshmirun::why(&table, &full, Terms::new(&[1; 5]), 6), Ok(Reason::OwnDestination));
 /// assert_eq!(keshmirun::why(&table, &full, Terms::new(&[1; 5]), 5), Ok(Reason::Destinations));
-/// assert_eq!(keshmirun::pick(&table, &full, Terms::new(&[1; 5]), 5, &mut [0; 20]).unwrap_err().number, 13);
+/// assert_eq!(keshmirun::pick(&table, &full, Terms::new(&[1; 5]), 5, &mut [0; keshmirun::Room::CHOICE]).unwrap_err().number, 13);
 ///
 /// // nothing ends at a fork
 /// assert_eq!(keshmirun::why(&table, &full, Terms::new(&[1; 5]), 2), Ok(Reason::NoEnd));
@@ -322,8 +325,8 @@ pub fn why(table: &[u8], marking: &[u8], terms: Terms, node: u8) -> Result<Reaso
 ///
 /// `choice` names ends by their numbers on the [`sheet`] of the same table, marking and terms, in rising order; it may be empty. What its ends were made from
 /// is spent, and then their targets gain in the order of ends, which at one stock is by last edge, then by paths. Results of one round may be taken together,
-/// and spend its token once: two offers of a join don't compete for its tokens if "their object offers differ and their control offers are all the same". A
-/// refused call leaves `out` as it was.
+/// and spend its token once: two offers of a join don't compete for its tokens if "their object offers differ and their control offers are all the same".
+/// [`Room::MARKING`] bytes hold any marking. A refused call leaves `out` as it was.
 ///
 /// # Errors
 /// Refusals 1 to 8 and 18 as for [`sheet`], 9 (the choice is not strictly rising, or names no end), 10 (two of its ends compete; the place is the lowest that
@@ -341,7 +344,7 @@ pub fn why(table: &[u8], marking: &[u8], terms: Terms, node: u8) -> Result<Reaso
 ///     0, 0, 3, 0, 1, 1, 2, 0, 1, 2, 3, 1, 1, 2, 6, 1, 1, 3, 4, 0,
 /// ];
 /// let marking = [0, 15, 1, 0, 2, 0, 0, 0, 7, 0, 0, 0, 9, 0, 0, 0, 1];
-/// let mut out = [0; 4096];
+/// let mut out = [0; keshmirun::Room::MARKING];
 /// let length = keshmirun::step(&table, &marking, Terms::new(&[1; 5]), &[0], &mut out).unwrap();
 /// // 7 went to the pin and the initial node's token with it, so the action runs
 /// assert_eq!(out[..length], [0, 15, 1, 0, 1, 0, 0, 0, 9, 1, 0, 0, 0, 7, 1, 0, 0]);
@@ -375,7 +378,7 @@ pub fn step(table: &[u8], marking: &[u8], terms: Terms, choice: &[u8], out: &mut
 /// Writes the marking after an action ends to the front of `out`, and returns its length.
 ///
 /// The action's input pins are emptied, it is idle, `values` (for each of its output pins in the table's order a count and that many 4-byte values) are
-/// appended, and each of its outgoing control edges gains a token. A refused call leaves `out` as it was.
+/// appended, and each of its outgoing control edges gains a token. [`Room::MARKING`] bytes hold any marking. A refused call leaves `out` as it was.
 ///
 /// # Errors
 /// Refusals 1 to 4 as for [`check`], 5 (the bytes are no marking of the table), 6 (the activity has ended), 14 (no running action), and 15 to 17 as for
@@ -385,7 +388,7 @@ pub fn step(table: &[u8], marking: &[u8], terms: Terms, choice: &[u8], out: &mut
 /// ```
 /// let table = [0, 15, 1, 2, 1, 1, 255, 0, 0, 2, 255, 0, 0, 0, 0, 1, 0];
 /// let running = [0, 4, 1, 0, 1, 0];
-/// let mut out = [0; 4096];
+/// let mut out = [0; keshmirun::Room::MARKING];
 /// let length = keshmirun::finish(&table, &running, 1, &[], &mut out).unwrap();
 /// assert_eq!(out[..length], [0, 4, 1, 0, 0, 0]);
 ///

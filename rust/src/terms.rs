@@ -12,7 +12,7 @@ pub const NO_BOUNDS: [u8; 4] = [0, 2, 1, 0];
 ///
 /// # Examples
 /// ```
-/// use keshmirun::{bounds_list, Terms};
+/// use keshmirun::{bounds_list, Room, Terms};
 ///
 /// // the paper's small event, as in the example of `sheet`
 /// let table = [
@@ -21,7 +21,7 @@ pub const NO_BOUNDS: [u8; 4] = [0, 2, 1, 0];
 ///     0, 0, 3, 0, 1, 1, 2, 0, 1, 2, 3, 1, 1, 2, 6, 1, 1, 3, 4, 0,
 /// ];
 /// let marking = [0, 15, 1, 0, 2, 0, 0, 0, 7, 0, 0, 0, 9, 0, 0, 0, 1];
-/// let mut out = [0; 4096];
+/// let mut out = [0; Room::SHEET];
 ///
 /// // edge 3, to the buffer, is for 8 and 9: 7 doesn't go over it, and the end on edge 4 is left
 /// let bounds = bounds_list(&[(3, 8..=9)]);

@@ -29,7 +29,7 @@ use Rattle.ends.specs.declared.EndsAnswer.{EndsAnswer}
 use Rattle.ends.specs.declared.EndsAnswer.the-variants.{Good, Refused}
 use Rattle.ends_masks.specs.Seating.{Seatable, EndsSeated, Seated, MarkingTold, Stands}
 use Rattle.ends_masks.specs.declared.Ends.{Ends}
-use Rattle.marking_held.specs.declared.Held.{Held}
+use Rattle.marking_held.specs.MarkingHeld.{Held}
 use Rattle.marking_held.proofs.HeldLaws.{stock-stays}
 use Rattle.board.specs.Reading.{EndsLent, Laid, BoardLaid}
 

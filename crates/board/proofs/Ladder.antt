@@ -2,23 +2,22 @@
 use Prim.Native.Nat.{ℕ, _≤_, _<_}
 use mathlib.Core.Path.{_≡_, refl, sym, ap, _∙_}
 use mathlib.Core.Bool.{Bool, true, false, not}
-use mathlib.Core.List.{List, []}
+use mathlib.Core.List.{List}
 use lib.ListN.{length}
 use borrow.Author.Tests.{le-leb, lt-leb}
 use Rattle.paper.specs.Lists.{below, gather}
 use Rattle.paper.specs.Limits.{limits}
 use Rattle.paper.specs.Answers.{Answer, refused, good, _>>=_, need}
 use Rattle.paper.specs.Table.{edges}
-use Rattle.paper.specs.Marking.{Marking, marking, Good as GoodMarking}
+use Rattle.paper.specs.Marking.{marking}
 use Rattle.paper.specs.Offers.{Offer, elem, Terms, terms, goesOver, guardsFine, boundsFine, offers, ends, sizesFine}
 use Rattle.paper.specs.Choices.{Board, board, boardOf}
 use Rattle.paper.proofs.Bools.{and-both, and-never, iff}
 use Rattle.paper.proofs.Members.{in-gather, gather-in, in-below, below-in}
 use Rattle.paper.proofs.Sameness.{elem-in, in-elem}
-use Rattle.paper.proofs.Values.{joined-passes}
 use Rattle.table.specs.declared.Table.{Table}
 use Rattle.table.specs.Reading.{tableRead}
-use Rattle.table.proofs.Reading.{read-fine, read-good}
+use Rattle.table.proofs.Reading.{read-fine}
 use Rattle.marking.specs.declared.reading.MarkingAnswer.{MarkingAnswer}
 use Rattle.marking.specs.Reading.{MarkingRead}
 use Rattle.marking.specs.declared.reading.MarkingAnswer.the-variants.{Ended, Refused as NoMarking}
@@ -26,17 +25,13 @@ use Rattle.offers.specs.Rows.{Rows, rowsIn, fine}
 use Rattle.terms.specs.Terms.{termsFine, Ties}
 use Rattle.terms.proofs.TermLaws.{terms-fine}
 use Rattle.terms.proofs.GuardLaws.{guards-long}
-use Rattle.offers_all.specs.Stages.{Gates, Input, Whole, onEdge}
-use Rattle.offers_all.proofs.Inputs.{good-flat}
-use Rattle.marking_held.specs.declared.Held.{Held}
-use Rattle.marking_held.specs.MarkingHeld.{MarkingHeld, LiveMarking}
+use Rattle.offers_all.specs.Stages.{Whole, onEdge}
+use Rattle.marking_held.specs.MarkingHeld.{Held, LiveMarking}
 use Rattle.marking_held.proofs.HeldLaws.{refused-up, ended-up}
 use Rattle.ends.specs.declared.EndsAnswer.{EndsAnswer}
 use Rattle.ends.specs.declared.EndsAnswer.the-variants.{Good, Refused}
 use Rattle.ends.specs.Ends.{EndsListed, Arranged}
-use Rattle.board.specs.Starts.{Begun}
 use Rattle.board.specs.Reading.{EndsLent, Laid, BoardLaid}
-use Rattle.board.proofs.StartLaws.{starts-are}
 
 -- ---- the ladder
 module _ (t b g x : List ℕ) {k : Table} (e : tableRead t ≡ good k) where
@@ -132,15 +127,6 @@ module _ (t b g x : List ℕ) {k : Table} (e : tableRead t ≡ good k) where
         board-arranged (Refused n p) s = rw (s .0, s .1 .0) (board-8-ends (s .1 .1))
 
 -- ---- what the builder is handed
-pub begun-input : (t b : List ℕ) {x : Table} → tableRead t ≡ good x → (y : Held) (codes values : List ℕ) (m : Marking) → GoodMarking t m → MarkingHeld t m b [] y
-    → Begun t b (y .from) (y .kept) (y .tokens) codes values (edges t) → (goes : Gates) (g z : List ℕ) → Ties t g z goes → Input t m goes g z codes values
-begun-input t b e y codes values m ok h f goes g z ties = record {
-  ties = ties;
-  one-value = λ j l d free. joined-passes t goes m (read-fine t e) (limits .longestPath) j l d (goes j) free;
-  flat = good-flat t e;
-  starts = λ j l c. starts-are t b y codes values m ok h f j l (read-good t e .edge j l .source-fits);
-}
-
 -- fine guards and a fine list stand for what goes over the edges, and there is a guard for each
 module _ (t g x : List ℕ) (f : termsFine t g x ≡ good tt) where
   pub fine-ties : Ties t g x (goesOver (terms g x))

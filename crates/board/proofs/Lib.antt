@@ -1,4 +1,3 @@
--- Laws of first offers, of the board's ladder, and of a board that was read.
-pub mod StartLaws
+-- Laws of the board's ladder, and of a board that was read.
 pub mod Ladder
 pub mod BoardLaws

@@ -1,3 +1,2 @@
--- What a board is read from, and what is read.
-pub mod Starts
+-- What is read of a board.
 pub mod Reading

@@ -12,8 +12,7 @@ use Rattle.offers.specs.Rows.{rowsIn, Holds}
 use Rattle.ends.specs.declared.EndsAnswer.{EndsAnswer}
 use Rattle.ends.specs.declared.EndsAnswer.the-variants.{Good, Refused}
 use Rattle.ends.specs.Ends.{Rooms, EndsListed}
-use Rattle.marking_held.specs.declared.Held.{Held}
-use Rattle.marking_held.specs.MarkingHeld.{MarkingHeld}
+use Rattle.marking_held.specs.MarkingHeld.{Held, MarkingHeld}
 
 -- the slices lent for the ends in order, each a row of the offers, and for their paths in order, each in a block of 16 cells
 pub record EndsLent : Type 0 where

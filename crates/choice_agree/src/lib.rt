@@ -9,16 +9,15 @@ ghost use lib.Bits.{bitAnd};
 ghost use lib.Count.{ones};
 ghost use lib.Dec.{eqb};
 ghost use lib.ListN.{length};
+ghost use Rattle.paper.specs.Limits.{limits};
 ghost use Rattle.paper.specs.Lists.{lowest};
 ghost use Rattle.paper.specs.Table.{nodes, edges, kind, owner, target as targetOf, isAction};
 ghost use Rattle.words.specs.Marks.{MarksOf, isMarked, placed};
 ghost use Rattle.table.specs.Reading.{Spans, Blank};
 ghost use Rattle.choice_masks.specs.Masks.{Masked};
 ghost use Rattle.ends_masks.specs.Seating.{EndsFull, homes};
-ghost use Rattle.marking_held.specs.MarkingHeld.{HeldLengths};
 ghost use Rattle.choice_agree.specs.Agreeing.{found, startsIn, edgeWrong, pinWrong, nodeWrong};
 use ends_masks::Ends;
-use marking_held::Held;
 use table::Table;
 
 // The lowest place that a search looks for.
@@ -139,27 +138,27 @@ fn mark_pins(t: &[u8], table: Table, by_target: &[u32], starting: &[u8], c: u32,
     }
 }
 
-// Whether node i starts though it runs, or is a store in which what is taken has no room beside its stock before the step.
+// Whether node i starts though it runs, or is a store in which what is taken has no room beside its stock before the step. What is kept says both: of an
+// action whether it runs, of a store its stock.
 fn node_wrong(
     t: &[u8],
     table: Table,
     by_target: &[u32],
     starting: &[u8],
-    runs: &[u8],
-    stock: &[u8],
+    kept: &[u8],
     c: u32,
     i: usize,
 ) -> bool
-    requires { ⌜ Spans (now t) table × (i < table .nodes) × (i < length (now «by_target»)) × (i < length (now runs)) × (i < length (now stock)) ⌝ }
-    ensures { λ r. ⌜ r ≡ nodeWrong (now (t .entry)) (isMarked (now (starting .entry))) c (now («by_target» .entry)) (now (runs .entry)) (now (stock .entry)) i ⌝ }
+    requires { ⌜ Spans (now t) table × (i < table .nodes) × (i < length (now «by_target»)) × (i < length (now kept)) ⌝ }
+    ensures { λ r. ⌜ r ≡ nodeWrong (now (t .entry)) (isMarked (now (starting .entry))) c (now («by_target» .entry)) (now (kept .entry)) (now (kept .entry)) i ⌝ }
 {
-    if words::is_marked(starting, i) && runs[i] != 0 {
+    if words::is_marked(starting, i) && kept[i] != 0 {
         return true;
     }
     if !table::is_store(table.kind(t, i)) {
         return false;
     }
-    table.upper(t, i) < wire::wide(stock[i]) + taken_of(by_target[i], c)
+    table.upper(t, i) < wire::wide(kept[i]) + taken_of(by_target[i], c)
 }
 
 // Marks the nodes that are wrong by themselves.
@@ -168,21 +167,19 @@ fn mark_nodes(
     table: Table,
     by_target: &[u32],
     starting: &[u8],
-    held: Held,
+    kept: [u8; Table::MOST_NODES],
     c: u32,
     unfit: &mut [u8],
 )
-    requires { ⌜ Spans (now t) table × (table .nodes ≤ length (now «by_target»)) × HeldLengths held × (table .nodes ≤ length (now unfit)) ⌝ }
-    ensures { λ _. ⌜ ((p : ℕ → Bool) → MarksOf p (table .nodes) (now (unfit .entry)) → MarksOf (λ i. p i || nodeWrong (now (t .entry)) (isMarked (now (starting .entry))) c (now («by_target» .entry)) (held .runs) (held .kept) i) (table .nodes) (now (unfit .exit))) ⌝ }
+    requires { ⌜ Spans (now t) table × (table .nodes ≤ length (now «by_target»)) × (length kept ≡ limits .mostNodes) × (table .nodes ≤ length (now unfit)) ⌝ }
+    ensures { λ _. ⌜ ((p : ℕ → Bool) → MarksOf p (table .nodes) (now (unfit .entry)) → MarksOf (λ i. p i || nodeWrong (now (t .entry)) (isMarked (now (starting .entry))) c (now («by_target» .entry)) kept kept i) (table .nodes) (now (unfit .exit))) ⌝ }
 {
-    let runs = held.runs;
-    let stock = held.kept;
     let n = table.nodes;
     let mut i: usize = 0;
     while i < n {
         words::mark(
             unfit,
-            node_wrong(t, table, by_target, starting, &runs, &stock, c, i),
+            node_wrong(t, table, by_target, starting, &kept, c, i),
             i,
         );
         i += 1;
@@ -196,23 +193,29 @@ fn unfit_by_masks(
     by_edge: &[u32],
     by_target: &[u32],
     starting: &[u8],
-    held: Held,
+    kept: [u8; Table::MOST_NODES],
     c: u32,
 ) -> Found
-    requires { ⌜ Spans (now t) table × (table .edges ≤ length (now «by_edge»)) × (table .nodes ≤ length (now «by_target»)) × HeldLengths held ⌝ }
-    ensures { λ r. ⌜ ((edge target home : List ℕ) (n : ℕ) → Masked edge n (now («by_edge» .entry)) → Masked target n (now («by_target» .entry)) → MarksOf (startsIn (now (t .entry)) target home n c) (table .nodes) (now (starting .entry)) → found r ≡ homes (now (t .entry)) edge target home (held .runs) (held .kept) n c) ⌝ }
+    requires { ⌜ Spans (now t) table × (table .edges ≤ length (now «by_edge»)) × (table .nodes ≤ length (now «by_target»)) × (length kept ≡ limits .mostNodes) ⌝ }
+    ensures { λ r. ⌜ ((edge target home : List ℕ) (n : ℕ) → Masked edge n (now («by_edge» .entry)) → Masked target n (now («by_target» .entry)) → MarksOf (startsIn (now (t .entry)) target home n c) (table .nodes) (now (starting .entry)) → found r ≡ homes (now (t .entry)) edge target home kept kept n c) ⌝ }
 {
     let mut unfit = [0u8; Table::MOST_NODES];
     mark_edges(t, table, by_edge, starting, c, &mut unfit);
     mark_pins(t, table, by_target, starting, c, &mut unfit);
-    mark_nodes(t, table, by_target, starting, held, c, &mut unfit);
+    mark_nodes(t, table, by_target, starting, kept, c, &mut unfit);
     lowest_marked(&unfit, table.nodes)
 }
 
 // The lowest node that doesn't agree with what is taken.
-pub fn unfit_node(t: &[u8], table: Table, ends: Ends, held: Held, c: u32) -> Found
-    requires { ⌜ Spans (now t) table × EndsFull ends × HeldLengths held ⌝ }
-    ensures { λ r. ⌜ found r ≡ homes (now (t .entry)) (ends .edge) (ends .target) (ends .home) (held .runs) (held .kept) (ends .count) c ⌝ }
+pub fn unfit_node(
+    t: &[u8],
+    table: Table,
+    ends: Ends,
+    kept: [u8; Table::MOST_NODES],
+    c: u32,
+) -> Found
+    requires { ⌜ Spans (now t) table × EndsFull ends × (length kept ≡ limits .mostNodes) ⌝ }
+    ensures { λ r. ⌜ found r ≡ homes (now (t .entry)) (ends .edge) (ends .target) (ends .home) kept kept (ends .count) c ⌝ }
 {
     let edge = ends.edge;
     let target = ends.target;
@@ -222,5 +225,5 @@ pub fn unfit_node(t: &[u8], table: Table, ends: Ends, held: Held, c: u32) -> Fou
     choice_masks::fill_masks(&mut by_edge, &edge, ends.count);
     choice_masks::fill_masks(&mut by_target, &target, ends.count);
     mark_starting(t, table, ends, c, &mut starting);
-    unfit_by_masks(t, table, &by_edge, &by_target, &starting, held, c)
+    unfit_by_masks(t, table, &by_edge, &by_target, &starting, kept, c)
 }

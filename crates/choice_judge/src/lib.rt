@@ -12,13 +12,11 @@ ghost use Rattle.words.specs.Marks.{MarksOf};
 ghost use Rattle.table.specs.Reading.{Spans, Blank, tableRead};
 ghost use Rattle.offers.specs.Struct.{Full};
 ghost use Rattle.ends_masks.specs.Seating.{EndsFull, rivalled, firstRivalled, makes};
-ghost use Rattle.marking_held.specs.MarkingHeld.{HeldLengths};
 ghost use Rattle.choice_agree.specs.Agreeing.{found};
 ghost use Rattle.choice_judge.specs.Judging.{said, rowRules, forksIn, partedAt, leftOut, PassedOn};
 ghost use Rattle.paper.specs.Limits.{limits};
 use choice_agree::Found;
 use ends_masks::Ends;
-use marking_held::Held;
 use offers::Offers;
 use table::Table;
 
@@ -175,9 +173,16 @@ fn parted_fork<'a>(
 // ---- all three
 
 // The first rule that refuses the choice c, with its place.
-pub fn judge(t: &[u8], table: Table, offers: Offers, ends: Ends, held: Held, c: u32) -> Judged
-    requires { ⌜ (tableRead (now t) ≡ good table) × Full offers × EndsFull ends × HeldLengths held ⌝ }
-    ensures { λ r. ⌜ said r ≡ judgedBy (rowRules (now (t .entry)) offers ends (held .runs) (held .kept)) c ⌝ }
+pub fn judge(
+    t: &[u8],
+    table: Table,
+    offers: Offers,
+    ends: Ends,
+    kept: [u8; Table::MOST_NODES],
+    c: u32,
+) -> Judged
+    requires { ⌜ (tableRead (now t) ≡ good table) × Full offers × EndsFull ends × (length kept ≡ limits .mostNodes) ⌝ }
+    ensures { λ r. ⌜ said r ≡ judgedBy (rowRules (now (t .entry)) offers ends kept kept) c ⌝ }
 {
     let foes = ends.foes;
     let makers = ends.makers;
@@ -189,7 +194,7 @@ pub fn judge(t: &[u8], table: Table, offers: Offers, ends: Ends, held: Held, c: 
     if let Found::At(i) = parted_fork(t, table, &offers.node, &offers.parents, offers.count, w) {
         return Judged::Refused(11, i);
     }
-    if let Found::At(i) = choice_agree::unfit_node(t, table, ends, held, c) {
+    if let Found::At(i) = choice_agree::unfit_node(t, table, ends, kept, c) {
         return Judged::Refused(12, i);
     }
     Judged::Fine

@@ -15,7 +15,7 @@ use Rattle.offers.specs.Struct.{Copied}
 use Rattle.offers.specs.declared.Offers.{Offers}
 use Rattle.ends_masks.specs.Seating.{EndsSeated}
 use Rattle.ends_masks.specs.declared.Ends.{Ends}
-use Rattle.marking_held.specs.declared.Held.{Held}
+use Rattle.marking_held.specs.MarkingHeld.{Held}
 use Rattle.board.specs.Reading.{EndsLent, Laid}
 use Rattle.board.proofs.BoardLaws.{laid-stands}
 use Rattle.step.specs.Stepping.{Standing}

@@ -12,7 +12,7 @@ use Rattle.paper.specs.Operations.{sheet, step, PickOn, Pick, WhyIf, Why, packe
 use Rattle.table.specs.Reading.{tableRead}
 use Rattle.offers.specs.declared.Offers.{Offers}
 use Rattle.offers.specs.Rows.{rowCells}
-use Rattle.marking_held.specs.declared.Held.{Held}
+use Rattle.marking_held.specs.MarkingHeld.{Held}
 use Rattle.ends.specs.Ends.{EndsListed}
 use Rattle.board.specs.Reading.{EndsLent, EndsRoom, Laid}
 use Rattle.board.proofs.BoardLaws.{board-refused}

@@ -1,8 +1,8 @@
-// What is asked about a board, by sheet, pick, why and step: the marking and the terms are read, the board is laid over what is held, and the request is
+// What is asked about a board, by sheet, pick, why and step: the marking and the terms are read, the board is laid over what was read, and the request is
 // answered on it. How far a search goes is asked here too. The table's bytes were read as a table.
 use ends::EndsAnswer;
+use marking::Fields;
 use marking::MarkingAnswer;
-use marking_held::Held;
 use table::Table;
 use terms::TermsAnswer;
 ghost use mathlib.Core.Path.{_≡_};
@@ -10,7 +10,7 @@ ghost use Rattle.paper.specs.Answers.{good};
 ghost use Rattle.paper.specs.Offers.{terms};
 ghost use Rattle.table.specs.Reading.{tableRead};
 ghost use Rattle.terms.specs.Terms.{termsFine};
-ghost use Rattle.marking_held.specs.MarkingHeld.{LiveMarking};
+ghost use Rattle.marking_held.specs.MarkingHeld.{LiveMarking, fieldsHeld};
 ghost use Rattle.keshmirun.specs.Asking.{shows, Responds};
 
 // What is asked of the choices of a board: the pick for a node, the reason for a node, the step by a choice, or how many states the search for a node visits,
@@ -38,19 +38,19 @@ fn is_shown(request: Request) -> bool
     }
 }
 
-// The board is laid over what is held, and the request answered.
+// The board is laid over what was read of the marking, and the request answered.
 fn respond(
     t: &[u8],
     table: Table,
     b: &[u8],
-    held: Held,
+    fields: Fields,
     g: &[u8],
     bounds: &[u8],
     request: Request,
     choice: &[u8],
     out: &mut [u8],
 ) -> u64
-    requires { ⌜ (tableRead (now t) ≡ good table) × LiveMarking (now t) (now b) held × (termsFine (now t) (now g) (now bounds) ≡ good tt) ⌝ }
+    requires { ⌜ (tableRead (now t) ≡ good table) × LiveMarking (now t) (now b) (fieldsHeld fields) × (termsFine (now t) (now g) (now bounds) ≡ good tt) ⌝ }
     ensures { λ r. ⌜ Responds request (now (t .entry)) (now (b .entry)) (terms (now (g .entry)) (now (bounds .entry))) (now (choice .entry)) r (now (out .entry)) (now (out .exit)) ⌝ }
 {
     let mut rows = [0u64; offers::CELLS];
@@ -62,7 +62,7 @@ fn respond(
         t,
         table,
         b,
-        held,
+        fields,
         g,
         bounds,
         is_shown(request),
@@ -83,11 +83,12 @@ fn respond(
     };
     let ends = ends_masks::seat(t, table, &rows, &found, n);
     let offers = offers_all::assemble(&rows, board.offers);
+    let kept = fields.kept;
     match asked {
-        Query::Pick(node) => pick::pick(t, table, offers, ends, held, node, out),
-        Query::Why(node) => why::why(t, table, offers, ends, held, node, out),
-        Query::Step => step::step(t, table, b, choice, offers, ends, held, out),
-        Query::Count(node, k) => why::states(t, table, offers, ends, held, node, k) as u64,
+        Query::Pick(node) => pick::pick(t, table, offers, ends, kept, node, out),
+        Query::Why(node) => why::why(t, table, offers, ends, kept, node, out),
+        Query::Step => step::step(t, table, b, choice, offers, ends, fields, out),
+        Query::Count(node, k) => why::states(t, table, offers, ends, kept, node, k) as u64,
     }
 }
 
@@ -116,6 +117,10 @@ pub fn ask(
     if let TermsAnswer::Refused(number, place) = terms::read(t, table, g, bounds) {
         return wire::pack(number, place, 0);
     }
-    let held = marking_held::take_up(from, kept, tokens);
-    respond(t, table, b, held, g, bounds, request, choice, out)
+    let fields = Fields {
+        from: from,
+        kept: kept,
+        tokens: tokens,
+    };
+    respond(t, table, b, fields, g, bounds, request, choice, out)
 }

@@ -3,11 +3,18 @@
 ghost use mathlib.Core.Path.{_≡_};
 ghost use Prim.Native.Nat.{_+_, _*_, _≤_};
 ghost use lib.ListN.{length};
+ghost use Rattle.paper.specs.Limits.{limits};
+ghost use Rattle.limits.specs.Rooms.{mostTable};
 use table::Table;
+
+// Room for a table with a node and an edge more than the limits allow.
+pub const ROOM: usize = Table::HEADER
+    + Table::NODE * (Table::MOST_NODES + 1)
+    + Table::EDGE * (Table::MOST_EDGES + 1);
 
 // Node i: its kind, no owner, lower 0, its upper.
 fn put_node(t: &mut [u8], i: usize, kind: usize, upper: usize)
-    requires { ⌜ (i ≤ 48) × (kind ≤ 13) × (512 ≤ length (now t)) ⌝ }
+    requires { ⌜ (i ≤ limits .mostNodes) × (kind ≤ 13) × (mostTable ≤ length (now t)) ⌝ }
 {
     let at = Table::node_at(i);
     wire::write16(t, at, kind * 256 + Table::NO_OWNER);
@@ -16,7 +23,7 @@ fn put_node(t: &mut [u8], i: usize, kind: usize, upper: usize)
 
 // Edge j of a table of so many nodes: kind 0 and source, then target and no guard.
 fn put_edge(t: &mut [u8], nodes: usize, j: usize, source: usize, target: usize)
-    requires { ⌜ (nodes ≤ 49) × (j ≤ 64) × (target ≤ 48) × (512 ≤ length (now t)) ⌝ }
+    requires { ⌜ (nodes ≤ limits .mostNodes + 1) × (j ≤ limits .mostEdges) × (target ≤ limits .mostNodes) × (mostTable ≤ length (now t)) ⌝ }
 {
     let counts = Table { nodes, edges: 0 };
     let at = counts.edge_at(j);
@@ -26,7 +33,7 @@ fn put_edge(t: &mut [u8], nodes: usize, j: usize, source: usize, target: usize)
 
 // The first `width` edges, all from node 0 to node 1.
 fn put_edges(t: &mut [u8], nodes: usize, width: usize)
-    requires { ⌜ (nodes ≤ 49) × (width ≤ 65) × (512 ≤ length (now t)) ⌝ }
+    requires { ⌜ (nodes ≤ limits .mostNodes + 1) × (width ≤ limits .mostEdges + 1) × (mostTable ≤ length (now t)) ⌝ }
 {
     let mut j: usize = 0;
     while j < width {
@@ -37,7 +44,7 @@ fn put_edges(t: &mut [u8], nodes: usize, width: usize)
 
 // The header: the number of bytes after the length, version 1 and the two counts. Answers the whole table's length.
 fn put_header(t: &mut [u8], nodes: usize, edges: usize) -> usize
-    requires { ⌜ (nodes ≤ 49) × (edges ≤ 65) × (512 ≤ length (now t)) ⌝ }
+    requires { ⌜ (nodes ≤ limits .mostNodes + 1) × (edges ≤ limits .mostEdges + 1) × (mostTable ≤ length (now t)) ⌝ }
     ensures { λ r. ⌜ r ≡ 5 + 4 * nodes + 4 * edges ⌝ }
 {
     let counts = Table { nodes, edges };
@@ -49,7 +56,7 @@ fn put_header(t: &mut [u8], nodes: usize, edges: usize) -> usize
 
 // So many nodes and no edge.
 pub fn nodes_alone(t: &mut [u8], nodes: usize) -> usize
-    requires { ⌜ (nodes ≤ 49) × (512 ≤ length (now t)) ⌝ }
+    requires { ⌜ (nodes ≤ limits .mostNodes + 1) × (mostTable ≤ length (now t)) ⌝ }
     ensures { λ r. ⌜ r ≡ 5 + 4 * nodes ⌝ }
 {
     let mut i: usize = 0;
@@ -62,7 +69,7 @@ pub fn nodes_alone(t: &mut [u8], nodes: usize) -> usize
 
 // Two nodes, of which node 1 is a buffer of the given upper.
 pub fn buffer(t: &mut [u8], upper: usize) -> usize
-    requires { ⌜ 512 ≤ length (now t) ⌝ }
+    requires { ⌜ mostTable ≤ length (now t) ⌝ }
     ensures { λ r. ⌜ r ≡ 13 ⌝ }
 {
     let len = nodes_alone(t, 2);
@@ -74,7 +81,7 @@ pub fn buffer(t: &mut [u8], upper: usize) -> usize
 // With no control node the edges go straight there. Each edge of the chain carries as many offers as enter it, so there are width times
 // (chain + 1) offers, each of one path, and `width` ends.
 pub fn chained(t: &mut [u8], width: usize, chain: usize) -> usize
-    requires { ⌜ (width + chain ≤ 65) × (chain ≤ 16) × (512 ≤ length (now t)) ⌝ }
+    requires { ⌜ (width + chain ≤ limits .mostEdges + 1) × (chain ≤ 16) × (mostTable ≤ length (now t)) ⌝ }
     ensures { λ r. ⌜ r ≡ 13 + 4 * width + 8 * chain ⌝ }
 {
     let nodes = chain + 2;
@@ -93,7 +100,7 @@ pub fn chained(t: &mut [u8], width: usize, chain: usize) -> usize
 // `width` edges from the initial node to a node of the given kind, node 1, and an edge from there to the final node. A join's one offer has
 // as many paths as edges lead to it.
 pub fn through(t: &mut [u8], width: usize, kind: usize) -> usize
-    requires { ⌜ (width ≤ 64) × (kind ≤ 13) × (512 ≤ length (now t)) ⌝ }
+    requires { ⌜ (width ≤ limits .mostEdges) × (kind ≤ 13) × (mostTable ≤ length (now t)) ⌝ }
     ensures { λ r. ⌜ r ≡ 21 + 4 * width ⌝ }
 {
     let len = chained(t, width, 1);

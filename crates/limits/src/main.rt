@@ -4,7 +4,11 @@ ghost use mathlib.Core.Path.{_≡_};
 ghost use mathlib.Core.Bool.{true};
 ghost use Prim.Native.Nat.{_+_, _*_, _%_, _≤_};
 ghost use lib.ListN.{length, drop, replicate};
+ghost use Rattle.paper.specs.Limits.{limits};
+ghost use Rattle.table.specs.Reading.{Holdable};
+use table::Limits;
 use table::Table;
+use table::TableAnswer;
 
 mod building;
 mod telling;
@@ -20,24 +24,55 @@ fn checked(bytes: &[u8], len: usize, n: usize, what: &[u8])
     telling::words(b"\n");
 }
 
-fn nodes(n: usize)
-    requires { ⌜ n ≤ 49 ⌝ }
+// The line of reading a table under limits: the same function that the library calls with today's.
+fn read_under(bytes: &[u8], len: usize, n: usize, what: &[u8], most: Limits)
+    requires { ⌜ (len ≤ length (now bytes)) × Holdable most ⌝ }
 {
-    let mut table = [0u8; 512];
+    let word = match table_read::read_under(&bytes[..len], most) {
+        TableAnswer::Good(_) => wire::pack(0, 0, 0),
+        TableAnswer::Refused(number, place) => wire::pack(number, place, 0),
+    };
+    telling::tried(n, what, word);
+    telling::number(b", under ", most.nodes);
+    telling::number(b" and ", most.edges);
+    telling::words(b"\n");
+}
+
+fn nodes(n: usize, most: Limits)
+    requires { ⌜ (n ≤ limits .mostNodes + 1) × Holdable most ⌝ }
+{
+    let mut table = [0u8; building::ROOM];
+    let len = building::nodes_alone(&mut table, n);
+    read_under(&table, len, n, b" nodes", most);
+}
+
+fn edges(n: usize, most: Limits)
+    requires { ⌜ (n ≤ limits .mostEdges + 1) × Holdable most ⌝ }
+{
+    let mut table = [0u8; building::ROOM];
+    let len = building::chained(&mut table, n, 0);
+    read_under(&table, len, n, b" edges", most);
+}
+
+// The same of the library's check.
+fn all_nodes(n: usize)
+    requires { ⌜ n ≤ limits .mostNodes + 1 ⌝ }
+{
+    let mut table = [0u8; building::ROOM];
     let len = building::nodes_alone(&mut table, n);
     checked(&table, len, n, b" nodes");
 }
 
-fn edges(n: usize)
-    requires { ⌜ n ≤ 65 ⌝ }
+fn all_edges(n: usize)
+    requires { ⌜ n ≤ limits .mostEdges + 1 ⌝ }
 {
-    let mut table = [0u8; 512];
+    let mut table = [0u8; building::ROOM];
     let len = building::chained(&mut table, n, 0);
     checked(&table, len, n, b" edges");
 }
 
 fn upper(n: usize) {
-    let mut table = [0u8; 512];
+    let mut table = [0u8; building::ROOM];
     let len = building::buffer(&mut table, n);
     checked(&table, len, n, b" as the upper of node 1");
 }
@@ -45,7 +80,7 @@ fn upper(n: usize) {
 fn chain(n: usize)
     requires { ⌜ n ≤ 16 ⌝ }
 {
-    let mut table = [0u8; 512];
+    let mut table = [0u8; building::ROOM];
     let len = building::chained(&mut table, 1, n);
     checked(&table, len, n, b" control nodes in a chain");
 }
@@ -63,7 +98,7 @@ fn sheet(bytes: &[u8], len: usize, room: &mut [u8], n: usize) -> u64
     ensures { λ r. ⌜ r % 4294967296 ≤ n ⌝ }
 {
     let table = &bytes[..len];
-    let mut marking = [0u8; 4096];
+    let mut marking = [0u8; Table::LONGEST_MARKING];
     let m = start(table, &mut marking);
     let counts = Table::counts(table);
     let edges = counts.edges;
@@ -96,7 +131,7 @@ fn shown(bytes: &[u8], len: usize, n: usize, what: &[u8])
 fn offers(n: usize, width: usize, chain: usize)
     requires { ⌜ (n ≡ width * (chain + 1)) × (width ≤ 20) × (chain ≤ 15) ⌝ }
 {
-    let mut table = [0u8; 512];
+    let mut table = [0u8; building::ROOM];
     let len = building::chained(&mut table, width, chain);
     shown(&table, len, n, b" offers");
 }
@@ -104,7 +139,7 @@ fn offers(n: usize, width: usize, chain: usize)
 fn paths(n: usize)
     requires { ⌜ n ≤ 9 ⌝ }
 {
-    let mut table = [0u8; 512];
+    let mut table = [0u8; building::ROOM];
     let len = building::through(&mut table, n, Table::JOIN);
     shown(&table, len, n, b" paths in an offer");
 }
@@ -112,23 +147,23 @@ fn paths(n: usize)
 fn ends(n: usize)
     requires { ⌜ n ≤ 21 ⌝ }
 {
-    let mut table = [0u8; 512];
+    let mut table = [0u8; building::ROOM];
     let len = building::chained(&mut table, n, 0);
     shown(&table, len, n, b" ends");
 }
 
 // The finish of an action from which an edge leads that has so many tokens.
 fn finish(tokens: u8, out: &mut [u8]) -> u64 {
-    let mut table = [0u8; 512];
+    let mut table = [0u8; building::ROOM];
     let len = building::through(&mut table, 1, Table::ACTION);
-    let mut marking = [0u8; 4096];
+    let mut marking = [0u8; Table::LONGEST_MARKING];
     let m = building::running(&mut marking, tokens);
     keshmirun::finish(&table[..len], &marking[..m], 1, b"", out)
 }
 
 // The line of that finish: of a reply also what the edge has then, which is its last byte.
 fn finished(tokens: u8) {
-    let mut out = [0u8; 4096];
+    let mut out = [0u8; Table::LONGEST_MARKING];
     let word = finish(tokens, &mut out);
     telling::tried(wire::wide(tokens), b" on an edge before finish", word);
     if 0 < wire::length_in(word) {
@@ -150,7 +185,7 @@ fn untouched(lent: &[u8], from: usize) -> bool
 fn room(n: usize)
     requires { ⌜ n ≤ 4096 ⌝ }
 {
-    let mut table = [0u8; 512];
+    let mut table = [0u8; building::ROOM];
     let len = building::through(&mut table, 8, Table::JOIN);
     let mut lent = [MARK; 4096];
     let word = sheet(&table, len, &mut lent, n);
@@ -162,11 +197,42 @@ fn room(n: usize)
     telling::words(b"\n");
 }
 
+// The limits before wish 6, and today's.
+fn smaller() -> Limits
+    ensures { λ r. ⌜ Holdable r ⌝ }
+{
+    Limits {
+        nodes: 48,
+        edges: 64,
+    }
+}
+
+fn larger() -> Limits
+    ensures { λ r. ⌜ Holdable r ⌝ }
+{
+    Limits {
+        nodes: Table::MOST_NODES,
+        edges: Table::MOST_EDGES,
+    }
+}
+
+// The cases of both limits on the number of nodes and of edges: so many are allowed, and one more isn't.
+fn around(most: Limits)
+    requires { ⌜ Holdable most ⌝ }
+{
+    nodes(most.nodes, most);
+    nodes(most.nodes + 1, most);
+    edges(most.edges, most);
+    edges(most.edges + 1, most);
+}
+
 fn main() {
-    nodes(48);
-    nodes(49);
-    edges(64);
-    edges(65);
+    around(smaller());
+    around(larger());
+    all_nodes(Table::MOST_NODES);
+    all_nodes(Table::MOST_NODES + 1);
+    all_edges(Table::MOST_EDGES);
+    all_edges(Table::MOST_EDGES + 1);
     upper(16);
     upper(17);
     chain(15);

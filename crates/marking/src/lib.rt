@@ -3,6 +3,7 @@
 mod reading;
 mod values;
 
+pub use reading::Fields;
 pub use reading::MarkingAnswer;
 pub use reading::has_count;
 pub use reading::read;

@@ -23,6 +23,14 @@ pub enum MarkingAnswer {
     Refused(u8, u8),
 }
 
+// What was read of a marking: of each node's field the place behind its first byte, and that byte, which is a stock's count or a running byte; of each edge
+// with a count the count.
+pub struct Fields {
+    pub from: [u16; Table::MOST_NODES],
+    pub kept: [u8; Table::MOST_NODES],
+    pub tokens: [u8; Table::MOST_EDGES],
+}
+
 // Where the bytes after a field start, or that the field isn't there.
 pub enum Next {
     At(usize),

@@ -23,9 +23,8 @@ use Rattle.paper.proofs.Members.{in-keep-below}
 use Rattle.paper.proofs.Given.{not-listed}
 use Rattle.paper.proofs.Tables.{GoodTable, upper-fits}
 use Rattle.marking.specs.Values.{isListed, listedNodes, ValuesNoted, ValuesRead}
-use Rattle.marking_held.specs.declared.Held.{Held}
 use Rattle.marking_held.proofs.HeldLaws.{stock-stays}
-use Rattle.marking_held.specs.MarkingHeld.{StockHeld, MarkingHeld}
+use Rattle.marking_held.specs.MarkingHeld.{Held, StockHeld, MarkingHeld}
 use Rattle.marking_give.specs.Giving.{gained, Amounts, CountsAre, Gained, giveOf, Givable, givenTo}
 use Rattle.marking.specs.declared.values.ValuesAnswer.the-variants.{Good, Refused}
 

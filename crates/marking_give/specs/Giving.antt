@@ -10,8 +10,7 @@ use Rattle.paper.specs.Table.{nodes, edges, kind, source, isObjectNode}
 use Rattle.paper.specs.Marking.{Marking, hasStock, hasTokens, counted}
 use Rattle.paper.specs.Operations.{valueLists, given, roomIn}
 use Rattle.marking.specs.Values.{isListed, listedNodes}
-use Rattle.marking_held.specs.declared.Held.{Held}
-use Rattle.marking_held.specs.MarkingHeld.{MarkingHeld}
+use Rattle.marking_held.specs.MarkingHeld.{Held, MarkingHeld}
 use Rattle.marking_give.specs.declared.Firing.{Firing}
 use Rattle.marking_give.specs.declared.Firing.the-variants.{Kind, Node}
 

@@ -29,3 +29,7 @@ module _ {f : ℕ → ℕ} {old new : List ℕ} {i : ℕ} (h : Filled f old new 
     rest = λ k n. h .rest k (omega arith);
     long = h .long;
   }
+
+  -- the same said in other words
+  pub filled-as : (g : ℕ → ℕ) → ((k : ℕ) → k < i → f k ≡ g k) → Filled g old new i
+  filled-as g e = record { done = λ k l. h .done k l ∙ e k l; rest = h .rest; long = h .long }

@@ -1,31 +1,33 @@
--- Laws of a marking held by value: what is held as it was read, what an action that is idle again leaves, and what nothing holds. Assumes nothing.
+-- Laws of a marking held in columns: what is held as it was read, what an action that is idle again leaves, and what nothing holds. Assumes nothing.
 use mathlib.Core.Path.{_≡_, refl, sym, ap, _∙_}
 use Prim.Native.Nat.{ℕ, _+_, _*_, _≤_, _<_}
 use native.Mathlib.Omega.{arith}
 use mathlib.Core.Bool.{Bool, true, false, not, _&&_, cond}
 use mathlib.Core.List.{List, [], _++_, append-nil}
 use mathlib.Core.Option.{Option, none, some}
-use lib.Dec.{eqb, ltb}
-use lib.ListN.{length, take, drop, set, replicate, length-set}
+use lib.Dec.{eqb}
+use lib.ListN.{length, take, drop, set}
 use lib.Seq.{getD-set-same, getD-set-other}
-use borrow.Author.Tests.{eqb-true, eqb-false, lt-ltb, le-ltb}
+use borrow.Author.Tests.{eqb-true, eqb-false}
 use Rattle.paper.specs.Lists.{at, oneIf}
 use Rattle.paper.specs.Limits.{limits}
-use Rattle.paper.specs.Table.{nodes, edges, kind, isObjectNode}
+use Rattle.paper.specs.Table.{nodes, edges, kind, owner, isObjectNode, isAction}
 use Rattle.paper.specs.Marking.{Marking, marking, blank, Good}
 use Rattle.paper.specs.Operations.{idled}
+use Rattle.paper.proofs.Bools.{never}
 use Rattle.paper.proofs.Bytes.{Bytes}
 use Rattle.paper.proofs.Ladders.{no-good, same-good}
 use Rattle.paper.proofs.Tables.{GoodTable, upper-fits}
 use Rattle.paper.proofs.OneMarking.{read-is-good}
 use Rattle.table.proofs.Reading.{blank as zeros}
+use Rattle.marking.specs.declared.reading.Fields.{Fields}
 use Rattle.marking.specs.declared.reading.MarkingAnswer.{MarkingAnswer}
 use Rattle.marking.specs.declared.reading.MarkingAnswer.the-variants.{Live, Ended, Refused}
 use Rattle.marking.specs.Reading.{said, NodesRead, EdgesRead, MarkingRead}
 use Rattle.marking.specs.Values.{isListed, ValuesNoted}
-use Rattle.marking_held.specs.declared.Held.{Held}
-use Rattle.marking_held.specs.MarkingHeld.{StockHeld, MarkingHeld, HeldInside, HeldLengths, NothingHeld, LiveMarking, noNodes, noEdges, heldOf}
-use Rattle.marking_held.proofs.HoldingLaws.{some-emptied}
+use Rattle.marking_held.specs.Filling.{Filled}
+use Rattle.marking_held.specs.MarkingHeld.{Held, StockHeld, MarkingHeld, HeldInside, HeldLengths, LiveMarking, noNodes, noEdges, heldOf, fieldsHeld, FieldsLengths}
+use Rattle.marking_held.proofs.Fillings.{filled-none, filled-set, filled-skip}
 
 -- ---- what a marking that was read holds
 stock-kept : (b vs : List ℕ) (p n q k : ℕ) → ValuesNoted b vs p n → n ≤ 255 → q ≡ 0 → k ≡ 0 → StockHeld vs b [] p n q k
@@ -82,136 +84,78 @@ module _ (t b from kept tokens : List ℕ) where
       pub live-up : GoodTable t limits → HeldLengths (heldOf from kept tokens) → r ≡ Live → LiveMarking t b (heldOf from kept tokens)
       live-up g n e = by-live g n (marking t b) refl e h
 
+-- what was read of a live marking has the lengths of its arrays
+pub fields-long : {t b : List ℕ} {x : Fields} → LiveMarking t b (fieldsHeld x) → FieldsLengths x
+fields-long l = record { from-long = l .lengths .from-long; kept-long = l .lengths .kept-long; tokens-long = l .lengths .tokens-long }
+
 pub live-is-good : (t b : List ℕ) (x : Held) (l : LiveMarking t b x) → Bytes b → Good t (l .current)
 live-is-good t b x l u = read-is-good t b (l .current) u (l .is-read) .0
 
 -- ---- an action idle again
--- the input pins of action a below i are emptied, and all else is as it was
-pub record PinsEmptied (t : List ℕ) (a i : ℕ) (x y : Held) : Type 0 where
-  pub lengths : HeldLengths y
-  pub same-from : y .from ≡ x .from
-  pub same-place : y .place ≡ x .place
-  pub same-runs : y .runs ≡ x .runs
-  pub same-tokens : y .tokens ≡ x .tokens
-  pub kepts : (k : ℕ) → at (y .kept) k ≡ cond (ltb k i && isListed t 3 a k) 0 (at (x .kept) k)
-  pub mores : (k : ℕ) → at (y .more) k ≡ cond (ltb k i && isListed t 3 a k) 0 (at (x .more) k)
+-- of the nodes below i the input pins of action a are empty
+abbrev pub PinsEmptied : List ℕ → ℕ → List ℕ → List ℕ → ℕ → Type 0
+PinsEmptied t a old new i = Filled (λ k. cond (isListed t 3 a k) 0 (at old k)) old new i
 
--- the running byte of action a is cleared
-abbrev pub stopped : Held → ℕ → Held
-stopped x a = record { from = x .from; kept = x .kept; place = x .place; more = x .more; runs = set (x .runs) a 0; tokens = x .tokens }
+pub pins-none : (t : List ℕ) (a : ℕ) (kept : List ℕ) → PinsEmptied t a kept kept 0
+pins-none t a kept = filled-none (λ k. cond (isListed t 3 a k) 0 (at kept k)) kept
 
-pub pins-begin : (t : List ℕ) (a : ℕ) (x : Held) → HeldLengths x → PinsEmptied t a 0 (stopped x a) (stopped x a)
-pins-begin t a x h = record {
-  lengths = record {
-    from-long = h .from-long;
-    kept-long = h .kept-long;
-    place-long = h .place-long;
-    more-long = h .more-long;
-    runs-long = length-set (x .runs) a 0 ∙ h .runs-long;
-    tokens-long = h .tokens-long;
-  };
-  same-from = refl;
-  same-place = refl;
-  same-runs = refl;
-  same-tokens = refl;
-  kepts = λ k. sym (rw (le-ltb k 0 (omega arith)));
-  mores = λ k. sym (rw (le-ltb k 0 (omega arith)));
-}
+module _ (t : List ℕ) (a : ℕ) {old new : List ℕ} {i : ℕ} (h : PinsEmptied t a old new i) {r : Bool} (q : r ≡ isListed t 3 a i) where
+  pub pins-more : i < length new → r ≡ true → PinsEmptied t a old (set new i 0) (i + 1)
+  pins-more l e = filled-set h 0 l (sym (rw (sym q ∙ e)))
 
-module _ {t : List ℕ} {a : ℕ} {x : Held} (y : Held) (i : ℕ) (l : i < limits .mostNodes) (h : PinsEmptied t a i x y) {r : Bool} (q : r ≡ isListed t 3 a i) where
-  pub pins-more : r ≡ true
-      → PinsEmptied t a (i + 1) x (record {
-        from = y .from;
-        kept = set (y .kept) i 0;
-        place = y .place;
-        more = set (y .more) i 0;
-        runs = y .runs;
-        tokens = y .tokens;
-      })
-  pins-more e =
-      let n = h .lengths in
-      record {
-        lengths = record {
-          from-long = n .from-long;
-          kept-long = length-set (y .kept) i 0 ∙ n .kept-long;
-          place-long = n .place-long;
-          more-long = length-set (y .more) i 0 ∙ n .more-long;
-          runs-long = n .runs-long;
-          tokens-long = n .tokens-long;
-        };
-        same-from = h .same-from;
-        same-place = h .same-place;
-        same-runs = h .same-runs;
-        same-tokens = h .same-tokens;
-        kepts = some-emptied t a i (x .kept) (y .kept) (omega (arith, n .kept-long)) true (sym q ∙ e) (h .kepts);
-        mores = some-emptied t a i (x .more) (y .more) (omega (arith, n .more-long)) true (sym q ∙ e) (h .mores);
-      }
+  pub pins-skip : r ≡ false → PinsEmptied t a old new (i + 1)
+  pins-skip e = filled-skip h (sym (rw (sym q ∙ e)))
 
-  pub pins-skip : r ≡ false → PinsEmptied t a (i + 1) x y
-  pins-skip e =
-      let n = h .lengths in
-      record {
-        lengths = n;
-        same-from = h .same-from;
-        same-place = h .same-place;
-        same-runs = h .same-runs;
-        same-tokens = h .same-tokens;
-        kepts = some-emptied t a i (x .kept) (y .kept) (omega (arith, n .kept-long)) false (sym q ∙ e) (h .kepts);
-        mores = some-emptied t a i (x .more) (y .more) (omega (arith, n .more-long)) false (sym q ∙ e) (h .mores);
-      }
-
-emptied-stock : (vs old extra : List ℕ) (f k p n k′ n′ : ℕ) (c : Bool) → StockHeld vs old extra f k p n → k′ ≡ cond c 0 k → n′ ≡ cond c 0 n
-    → StockHeld (cond c [] vs) old extra f k′ p n′
-emptied-stock vs old extra f k p n k′ n′ true v e g =
+emptied-stock : (vs old extra : List ℕ) (f k p n : ℕ) (c : Bool) → n ≡ 0 → StockHeld vs old extra f k p n
+    → StockHeld (cond c [] vs) old extra f (cond c 0 k) p n
+emptied-stock vs old extra f k p n true e v =
     let s = v .inside in
-    rw (e, g) (record {
-      many = refl;
-      stand = refl;
-      inside = record {
-        few = omega arith;
-        in-old = omega (arith, s .in-old);
-        in-extra = omega (arith, s .in-extra);
-      };
-    })
-emptied-stock vs old extra f k p n k′ n′ false v e g = rw (e, g) v
+    rw e (record { many = refl; stand = refl; inside = record { few = omega arith; in-old = omega (arith, s .in-old); in-extra = omega (arith, s .in-extra) } })
+emptied-stock vs old extra f k p n false e v = v
 
-pub idle-held : (t : List ℕ) (a : ℕ) (x y : Held) → a < limits .mostNodes → HeldLengths x → PinsEmptied t a (nodes t) (stopped x a) y
-    → (m : Marking) (old extra : List ℕ) → MarkingHeld t m old extra x → MarkingHeld t (idled t a m) old extra y
-unfolding idled
-idle-held t a x y l n p m old extra h = record {
-  stocks = λ i k o.
-      rw (p .same-from, p .same-place)
-      (emptied-stock (m .stock i) old extra (at (x .from) i) (at (x .kept) i) (at (x .place) i) (at (x .more) i) (at (y .kept) i) (at (y .more) i)
-      (isListed t 3 a i)
-      (h .stocks i k o) (p .kepts i ∙ rw (lt-ltb i (nodes t) k)) (p .mores i ∙ rw (lt-ltb i (nodes t) k)));
-  running = λ i k r. rw (p .same-runs) (by i (eqb i a) refl (h .running i k r));
-  counts = λ j k c. rw (p .same-tokens) (h .counts j k c);
-}
-  where
-    by : (i : ℕ) (c : Bool) → eqb i a ≡ c → at (x .runs) i ≡ oneIf (m .runs i) → at (set (x .runs) a 0) i ≡ oneIf (not c && m .runs i)
-    by i true q r = rw (eqb-true i a q) (getD-set-same (x .runs) a 0 0 (omega (arith, n .runs-long)))
-    by i false q r = let d : i ≡ a → ⊥ = eqb-false i a q in getD-set-other (x .runs) a i 0 0 d ∙ r
+-- what is kept says running bytes too: no action is a pin, and the action a is no object node
+module _ (t : List ℕ) (a : ℕ) (kept then : List ℕ) (l : a < length kept) (p : PinsEmptied t a (set kept a 0) then (nodes t))
+    (action : isAction (kind t a) ≡ true) where
+  left : (i : ℕ) → i < nodes t → isObjectNode (kind t i) ≡ true → at then i ≡ cond (isListed t 3 a i) 0 (at kept i)
+  left i k o =
+      let z : kind t a ≡ 2 = eqb-true (kind t a) 2 action in
+      let d : i ≡ a → ⊥ = λ e. never (isObjectNode (kind t i)) o (ap (λ (x : ℕ). isObjectNode (kind t x)) e ∙ ap isObjectNode z) in
+      p .done i k ∙ ap (cond (isListed t 3 a i) 0) (getD-set-other kept a i 0 0 d)
+
+  still : (m : Marking) (i : ℕ) → i < nodes t → isAction (kind t i) ≡ true → at kept i ≡ oneIf (m .runs i) → at then i ≡ oneIf (not (eqb i a) && m .runs i)
+  still m i k r e =
+      let z : kind t i ≡ 2 = eqb-true (kind t i) 2 r in
+      let same : at then i ≡ at (set kept a 0) i = p .done i k ∙ ap (λ (x : ℕ). cond (eqb x 3 && eqb (owner t i) a) 0 (at (set kept a 0) i)) z in
+      same ∙ by (eqb i a) refl
+    where
+      by : (c : Bool) → eqb i a ≡ c → at (set kept a 0) i ≡ oneIf (not c && m .runs i)
+      by true q = rw (eqb-true i a q) (getD-set-same kept a 0 0 l)
+      by false q = let d : i ≡ a → ⊥ = eqb-false i a q in getD-set-other kept a i 0 0 d ∙ e
+
+  pub idle-held : (m : Marking) (old from tokens : List ℕ) → MarkingHeld t m old [] (heldOf from kept tokens)
+      → MarkingHeld t (idled t a m) old [] (heldOf from then tokens)
+  unfolding idled
+  idle-held m old from tokens h = record {
+    stocks = λ i k o.
+        rw (left i k o)
+        (emptied-stock (m .stock i) old [] (at from i) (at kept i) (at noNodes i) (at noNodes i) (isListed t 3 a i) (zeros (limits .mostNodes) i)
+        (h .stocks i k o));
+    running = λ i k r. still m i k r (h .running i k r);
+    counts = h .counts;
+  }
 
 -- ---- nothing
-pub nothing-held : (x : Held) → NothingHeld x → (t old extra : List ℕ) (e : Bool) → MarkingHeld t (blank e) old extra x
-nothing-held x n t old extra e = record {
-  stocks = λ i l o.
-      rw (n .no-from i, n .no-kept i, n .no-place i, n .no-more i)
-      (record { many = refl; stand = refl; inside = record { few = omega arith; in-old = omega arith; in-extra = omega arith } });
-  running = λ i l a. n .no-runs i;
-  counts = λ j l c. n .no-tokens j;
-}
+pub nothing-held : (t old : List ℕ) (e : Bool) → MarkingHeld t (blank e) old [] (heldOf noNodes noNodes noEdges)
+nothing-held t old e =
+    let no : (i : ℕ) → at noNodes i ≡ 0 = zeros (limits .mostNodes) in
+    record {
+      stocks = λ i l o. rw (no i) (record { many = refl; stand = refl; inside = record { few = omega arith; in-old = omega arith; in-extra = omega arith } });
+      running = λ i l a. no i;
+      counts = λ j l c. zeros (limits .mostEdges) j;
+    }
 
-pub zeros-held : NothingHeld (record { from = noNodes; kept = noNodes; place = noNodes; more = noNodes; runs = noNodes; tokens = noEdges })
-zeros-held = record {
-  lengths = record { from-long = refl; kept-long = refl; place-long = refl; more-long = refl; runs-long = refl; tokens-long = refl };
-  no-from = zeros (limits .mostNodes);
-  no-kept = zeros (limits .mostNodes);
-  no-place = zeros (limits .mostNodes);
-  no-more = zeros (limits .mostNodes);
-  no-runs = zeros (limits .mostNodes);
-  no-tokens = zeros (limits .mostEdges);
-}
+pub nothing-lengths : HeldLengths (heldOf noNodes noNodes noEdges)
+nothing-lengths = lengths-up noNodes noNodes noEdges refl refl refl
 
 -- ---- what is written stands in its bytes
 pub held-inside : {t : List ℕ} {m : Marking} {old extra : List ℕ} {x : Held} → MarkingHeld t m old extra x → HeldInside t old extra x

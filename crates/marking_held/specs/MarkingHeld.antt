@@ -1,4 +1,4 @@
--- What a `Held` means: a marking, whose stocks are values that stay, in old bytes, and values that come, in others. Assumes nothing.
+-- What columns of a marking mean: its stocks are values that stay, in old bytes, and values that come, in others. Assumes nothing.
 use Prim.Native.Nat.{ℕ, _+_, _*_, _≤_, _<_}
 use mathlib.Core.Path.{_≡_}
 use mathlib.Core.Bool.{true, false}
@@ -10,8 +10,20 @@ use Rattle.paper.specs.Bytes.{four}
 use Rattle.paper.specs.Limits.{limits}
 use Rattle.paper.specs.Table.{nodes, edges, kind, isObjectNode, isAction}
 use Rattle.paper.specs.Marking.{Marking, counted, marking}
-use Rattle.table.specs.Reading.{Blank}
-use Rattle.marking_held.specs.declared.Held.{Held}
+use Rattle.marking.specs.declared.reading.Fields.{Fields}
+
+-- a marking in columns, of which code lends those that it reads or changes. A stock is two runs: `kept` values that stay, in the old bytes from place `from`
+-- on, then `more` values that come, in other bytes from `place` on
+pub record Held : Type 0 where
+  pub from : List ℕ
+  pub kept : List ℕ
+  pub place : List ℕ
+  pub more : List ℕ
+  pub runs : List ℕ
+  pub tokens : List ℕ
+
+abbrev pub heldIn : List ℕ → List ℕ → List ℕ → List ℕ → List ℕ → List ℕ → Held
+heldIn f k p n r o = record { from = f; kept = k; place = p; more = n; runs = r; tokens = o }
 
 -- `kept` values stand in `old` from place `from` on, `more` values in `extra` from `place` on, and a byte says how many they are
 pub record StockInside (old extra : List ℕ) (from kept place more : ℕ) : Type 0 where
@@ -38,7 +50,7 @@ pub record HeldInside (t old extra : List ℕ) (x : Held) : Type 0 where
   pub stock : (i : ℕ) → i < nodes t → isObjectNode (kind t i) ≡ true
       → StockInside old extra (at (x .from) i) (at (x .kept) i) (at (x .place) i) (at (x .more) i)
 
--- the arrays have the lengths that they are declared with, which their types as lists don't say
+-- the columns have the lengths of the arrays that are lent, which their types as lists don't say
 pub record HeldLengths (x : Held) : Type 0 where
   pub from-long : length (x .from) ≡ limits .mostNodes
   pub kept-long : length (x .kept) ≡ limits .mostNodes
@@ -46,15 +58,6 @@ pub record HeldLengths (x : Held) : Type 0 where
   pub more-long : length (x .more) ≡ limits .mostNodes
   pub runs-long : length (x .runs) ≡ limits .mostNodes
   pub tokens-long : length (x .tokens) ≡ limits .mostEdges
-
-pub record NothingHeld (x : Held) : Type 0 where
-  pub lengths : HeldLengths x
-  pub no-from : Blank (x .from)
-  pub no-kept : Blank (x .kept)
-  pub no-place : Blank (x .place)
-  pub no-more : Blank (x .more)
-  pub no-runs : Blank (x .runs)
-  pub no-tokens : Blank (x .tokens)
 
 -- a live marking was read from the bytes b, and is held; nothing comes
 pub record LiveMarking (t b : List ℕ) (x : Held) : Type 0 where
@@ -74,4 +77,13 @@ noEdges = replicate (limits .mostEdges) 0
 -- what was read of a marking, of which nothing comes: the places of stocks, the first bytes of the nodes' fields, which are a stock's count or a running byte,
 -- and the counts
 abbrev pub heldOf : List ℕ → List ℕ → List ℕ → Held
-heldOf f k o = record { from = f; kept = k; place = noNodes; more = noNodes; runs = k; tokens = o }
+heldOf f k o = heldIn f k noNodes noNodes k o
+
+abbrev pub fieldsHeld : Fields → Held
+fieldsHeld x = heldOf (x .from) (x .kept) (x .tokens)
+
+-- the arrays have the lengths that they are declared with
+pub record FieldsLengths (x : Fields) : Type 0 where
+  pub from-long : length (x .from) ≡ limits .mostNodes
+  pub kept-long : length (x .kept) ≡ limits .mostNodes
+  pub tokens-long : length (x .tokens) ≡ limits .mostEdges

@@ -1,4 +1,4 @@
--- Laws of writing a marking: what fields take, how a run of fields grows by one, and that the fields' bytes are the marking's. Assumes nothing.
+-- Laws of writing a marking: what fields take, how a run of fields grows by one, that the fields' bytes are the marking's, and the reply then. Assumes nothing.
 use mathlib.Core.Path.{_≡_, refl, sym, ap, ap₂, _∙_}
 use Prim.Native.Nat.{ℕ, suc, _+_, _-_, _*_, _≤_, _<_}
 use native.Mathlib.Omega.{arith}
@@ -13,14 +13,16 @@ use Rattle.paper.specs.Lists.{at, below, gather, oneIf}
 use Rattle.paper.specs.Bytes.{two, listed}
 use Rattle.paper.specs.Table.{nodes, edges, kind, isObjectNode, isAction}
 use Rattle.paper.specs.Marking.{Marking, stockOf, runsOf, tokensOf, written, counted, nodeFields, layout, encode}
+use Rattle.paper.specs.Answers.{good}
+use Rattle.paper.specs.Operations.{inRoom, packed, Reply}
+use Rattle.paper.proofs.Calls.{reply-short, reply-full}
 use Rattle.paper.proofs.Lengths.{gather-append, gather-gather}
 use Rattle.paper.proofs.Bools.{true-or-false}
 use Rattle.wire.specs.Totals.{total}
 use Rattle.wire.proofs.Laws.{sets-then, sets-front}
 use Rattle.wire.proofs.Runs.{gather-same, length-total, part-length, run-more}
 use Rattle.marking.specs.Reading.{edgeFields}
-use Rattle.marking_held.specs.declared.Held.{Held}
-use Rattle.marking_held.specs.MarkingHeld.{MarkingHeld, HeldInside}
+use Rattle.marking_held.specs.MarkingHeld.{Held, MarkingHeld, HeldInside}
 use Rattle.marking_write.specs.declared.NodeHeld.{NodeHeld}
 use Rattle.marking_write.specs.Writing.{nodeHeldAt, NodeInside, sizeAs, nodeSize, edgeSize, sizeOf, stockBytes, fieldBytes, nodeBytes, edgeBytes}
 use Rattle.marking.proofs.Laws.{layout-is}
@@ -196,14 +198,14 @@ module _ {t : List ℕ} {m : Marking} {old extra : List ℕ} {x : Held} (b : Mar
       (gather-gather (written m) (edgeFields t) (below (edges t)) ∙ gather-same _ _ (edges t) edge-is)
 
   -- the size is that of the marking's bytes
-  pub size-is : length (encode t m) ≡ sizeOf t (x .kept) (x .more)
+  size-is : length (encode t m) ≡ sizeOf t (x .kept) (x .more)
   unfolding encode sizeOf
   size-is =
       let e : length edgePart ≡ total (edgeSize t) (edges t) = length-total _ _ (edges t) (λ j l. length-edge t (x .tokens) j) in
       omega (arith, node-length, ap length parts-are, length-append nodePart edgePart)
 
   -- the nodes' fields, the edges' counts behind them and the head in front are the marking at the front
-  pub write-is : (d : List ℕ) {of-nodes of-edges after : List ℕ} {len state p : ℕ} → len ≡ sizeOf t (x .kept) (x .more)
+  write-is : (d : List ℕ) {of-nodes of-edges after : List ℕ} {len state p : ℕ} → len ≡ sizeOf t (x .kept) (x .more)
       → p ≡ 4 + total (nodeSize t (x .kept) (x .more)) (nodes t) → state ≡ oneIf (m .ended) → len ≤ length d → of-nodes ≡ sets d 4 nodePart
       → of-edges ≡ sets of-nodes p edgePart → after ≡ sets of-edges 0 (two (len - 2) ++ (1 ∷ state ∷ [])) → after ≡ encode t m ++ drop (length (encode t m)) d
   unfolding encode
@@ -216,3 +218,14 @@ module _ {t : List ℕ} {m : Marking} {old extra : List ℕ} {x : Held} (b : Mar
       ∙ sets-before head (nodePart ++ edgePart) d 0
       ∙ ap (sets d 0) w
       ∙ sets-front (encode t m) d (omega (arith, size-is))
+
+  -- ---- the reply into the bytes d, which the marking of len bytes has room in or not
+  module _ (d : List ℕ) {len w : ℕ} (e : len ≡ sizeOf t (x .kept) (x .more)) where
+    pub short-is : length d < len → w ≡ packed 17 0 0 → Reply (inRoom (length d) (good (encode t m))) w d d
+    short-is l h = reply-short (encode t m) d len w (size-is ∙ sym e) l h
+
+    -- as the three writers leave it
+    pub full-is : {of-nodes of-edges after : List ℕ} {state p : ℕ} → len ≤ length d → p ≡ 4 + total (nodeSize t (x .kept) (x .more)) (nodes t)
+        → state ≡ oneIf (m .ended) → of-nodes ≡ sets d 4 nodePart → of-edges ≡ sets of-nodes p edgePart
+        → after ≡ sets of-edges 0 (two (len - 2) ++ (1 ∷ state ∷ [])) → w ≡ packed 0 0 len → Reply (inRoom (length d) (good (encode t m))) w d after
+    full-is {after = after} l q f n g a h = reply-full (encode t m) d after len w (size-is ∙ sym e) l h (write-is d e q f l n g a)

@@ -1,17 +1,27 @@
 -- What the writer of a marking is given and what it writes, in the paper's words. Assumes nothing.
 use Prim.Native.Nat.{ℕ, _+_, _*_, _≤_}
-use mathlib.Core.Path.{_≡_}
 use mathlib.Core.Bool.{cond}
 use mathlib.Core.List.{List, [], _∷_, _++_}
-use lib.ListN.{take, drop}
+use lib.ListN.{length, take, drop}
 use Rattle.paper.specs.Lists.{at, oneIf}
 use Rattle.paper.specs.Limits.{limits}
 use Rattle.paper.specs.Table.{nodes, edges, kind, isObjectNode, isAction}
 use Rattle.paper.specs.Marking.{counted}
 use Rattle.wire.specs.Totals.{total}
-use Rattle.marking_held.specs.declared.Held.{Held}
-use Rattle.marking_held.specs.MarkingHeld.{StockInside}
+use Rattle.marking_held.specs.MarkingHeld.{Held, StockInside, heldIn}
 use Rattle.marking_write.specs.declared.NodeHeld.{NodeHeld}
+
+-- what is held of nodes, without the counts of edges
+abbrev pub nodesHeld : List ℕ → List ℕ → List ℕ → List ℕ → List ℕ → Held
+nodesHeld f k p n r = heldIn f k p n r []
+
+-- the columns of nodes have an entry for each of n nodes
+pub record NodesLong (n : ℕ) (x : Held) : Type 0 where
+  pub from-long : n ≤ length (x .from)
+  pub kept-long : n ≤ length (x .kept)
+  pub place-long : n ≤ length (x .place)
+  pub more-long : n ≤ length (x .more)
+  pub runs-long : n ≤ length (x .runs)
 
 -- what is held of node i
 abbrev pub nodeHeldAt : Held → ℕ → NodeHeld
@@ -41,12 +51,6 @@ sizeOf t kept more = 4 + total (nodeSize t kept more) (nodes t) + total (edgeSiz
 
 abbrev pub mostSize : ℕ
 mostSize = 4 + limits .mostNodes * mostNodeSize + limits .mostEdges
-
--- len is what the marking takes, the head at least, and there is room for it
-pub record SizeFits (t : List ℕ) (x : Held) (len room : ℕ) : Type 0 where
-  pub is-size : len ≡ sizeOf t (x .kept) (x .more)
-  pub has-head : 4 ≤ len
-  pub in-room : len ≤ room
 
 -- ---- the fields' bytes
 unfoldable pub stockBytes : List ℕ → List ℕ → NodeHeld → List ℕ

@@ -1,13 +1,12 @@
-// Writing a marking that is held: its size first, then its bytes, front to back (`MarkingHeld`). What stays is taken from the old bytes, what comes from
-// others, where all of it stands (`HeldInside`).
+// Writing a marking that is held in columns, which are lent: its size first, then its bytes, front to back (`MarkingHeld`). What stays is taken from the old
+// bytes, what comes from others, where all of it stands (`HeldInside`).
 use marking::has_count;
-use marking_held::Held;
 use table::Table;
 ghost use mathlib.Core.Path.{_≡_};
 ghost use mathlib.Core.Bool.{true};
-ghost use mathlib.Core.List.{List, _++_};
+ghost use mathlib.Core.List.{List};
 ghost use Prim.Native.Nat.{ℕ, _+_, _*_, _≤_, _<_};
-ghost use lib.ListN.{length, drop};
+ghost use lib.ListN.{length};
 ghost use lib.Seq.{sets};
 ghost use Rattle.paper.specs.Lists.{at, below, gather, oneIf};
 ghost use Rattle.paper.specs.Limits.{limits};
@@ -17,8 +16,9 @@ ghost use Rattle.paper.specs.Answers.{good};
 ghost use Rattle.paper.specs.Operations.{inRoom, Reply};
 ghost use Rattle.table.specs.Reading.{Spans, tableRead};
 ghost use Rattle.wire.specs.Totals.{total};
-ghost use Rattle.marking_held.specs.MarkingHeld.{MarkingHeld, HeldInside};
-ghost use Rattle.marking_write.specs.Writing.{NodeInside, SizeFits, sizeAs, mostNodeSize, nodeSize, edgeSize, sizeOf, mostSize, stockBytes, fieldBytes, nodeBytes, edgeBytes};
+ghost use Rattle.marking_held.specs.MarkingHeld.{MarkingHeld, HeldInside, HeldLengths, heldIn};
+ghost use Rattle.marking_write.specs.Writing.{NodeInside, NodesLong, nodesHeld, sizeAs, mostNodeSize, nodeSize, edgeSize, sizeOf, mostSize};
+ghost use Rattle.marking_write.specs.Writing.{stockBytes, fieldBytes, nodeBytes, edgeBytes};
 
 // What is held of one node.
 struct NodeHeld {
@@ -51,14 +51,10 @@ fn node_size(k: usize, values: usize) -> usize
 }
 
 // What the nodes' fields take.
-fn nodes_size(
-    t: &[u8],
-    table: Table,
-    kept: [u8; Table::MOST_NODES],
-    more: [u8; Table::MOST_NODES],
-) -> usize
-    requires { ⌜ Spans (now t) table ⌝ }
-    ensures { λ r. ⌜ (r ≡ total (nodeSize (now (t .entry)) kept more) (nodes (now (t .entry)))) × (r ≤ limits .mostNodes * mostNodeSize) ⌝ }
+fn nodes_size(t: &[u8], table: Table, kept: &[u8], more: &[u8]) -> usize
+    requires { ⌜ Spans (now t) table × (table .nodes ≤ length (now kept)) × (table .nodes ≤ length (now more)) ⌝ }
+    ensures { λ r. ⌜ (r ≡ total (nodeSize (now (t .entry)) (now (kept .entry)) (now (more .entry))) (nodes (now (t .entry))))
+        × (r ≤ limits .mostNodes * mostNodeSize) ⌝ }
 {
     let n = table.nodes;
     let mut taken: usize = 0;
@@ -97,12 +93,10 @@ fn edges_size(t: &[u8], table: Table) -> usize
 }
 
 // What the marking takes.
-fn size(t: &[u8], table: Table, held: Held) -> usize
-    requires { ⌜ tableRead (now t) ≡ good table ⌝ }
-    ensures { λ r. ⌜ (r ≡ sizeOf (now (t .entry)) (held .kept) (held .more)) × (4 ≤ r) × (r ≤ mostSize) ⌝ }
+fn size(t: &[u8], table: Table, kept: &[u8], more: &[u8]) -> usize
+    requires { ⌜ (tableRead (now t) ≡ good table) × (table .nodes ≤ length (now kept)) × (table .nodes ≤ length (now more)) ⌝ }
+    ensures { λ r. ⌜ (r ≡ sizeOf (now (t .entry)) (now (kept .entry)) (now (more .entry))) × (4 ≤ r) × (r ≤ mostSize) ⌝ }
 {
-    let kept = held.kept;
-    let more = held.more;
     4 + nodes_size(t, table, kept, more) + edges_size(t, table)
 }
 
@@ -150,24 +144,31 @@ fn write_nodes(
     table: Table,
     old: &[u8],
     extra: &[u8],
-    held: Held,
+    from: &[u16],
+    kept: &[u8],
+    place: &[u16],
+    more: &[u8],
+    runs: &[u8],
     out: &mut [u8],
 ) -> usize
-    requires { ⌜ Spans (now t) table × HeldInside (now t) (now old) (now extra) held
-        × (4 + total (nodeSize (now t) (held .kept) (held .more)) (nodes (now t)) ≤ length (now out)) ⌝ }
-    ensures { λ r. ⌜ (r ≡ 4 + total (nodeSize (now (t .entry)) (held .kept) (held .more)) (nodes (now (t .entry))))
-        × (now (out .exit) ≡ sets (now (out .entry)) 4 (gather (nodeBytes (now (t .entry)) (now (old .entry)) (now (extra .entry)) held) (below (nodes (now (t .entry)))))) ⌝ }
+    requires { ⌜ Spans (now t) table × NodesLong (table .nodes) (nodesHeld (now from) (now kept) (now place) (now more) (now runs))
+        × HeldInside (now t) (now old) (now extra) (nodesHeld (now from) (now kept) (now place) (now more) (now runs))
+        × (4 + total (nodeSize (now t) (now kept) (now more)) (nodes (now t)) ≤ length (now out)) ⌝ }
+    ensures { λ r. ⌜ (r ≡ 4 + total (nodeSize (now (t .entry)) (now (kept .entry)) (now (more .entry))) (nodes (now (t .entry))))
+        × (now (out .exit) ≡ sets (now (out .entry)) 4 (gather (nodeBytes (now (t .entry)) (now (old .entry)) (now (extra .entry))
+        (nodesHeld (now (from .entry)) (now (kept .entry)) (now (place .entry)) (now (more .entry)) (now (runs .entry))))
+        (below (nodes (now (t .entry)))))) ⌝ }
 {
     let n = table.nodes;
     let mut to: usize = 4;
     let mut i: usize = 0;
     while i < n {
         let node = NodeHeld {
-            from: held.from[i],
-            kept: held.kept[i],
-            place: held.place[i],
-            more: held.more[i],
-            runs: held.runs[i],
+            from: from[i],
+            kept: kept[i],
+            place: place[i],
+            more: more[i],
+            runs: runs[i],
         };
         to = write_node(table.kind(t, i), old, extra, node, out, to);
         i += 1;
@@ -189,15 +190,11 @@ fn write_edge(t: &[u8], table: Table, tokens: u8, j: usize, out: &mut [u8], to: 
 }
 
 // Every edge's count.
-fn write_edges(
-    t: &[u8],
-    table: Table,
-    tokens: [u8; Table::MOST_EDGES],
-    out: &mut [u8],
-    start: usize,
-)
-    requires { ⌜ (tableRead (now t) ≡ good table) × (start + total (edgeSize (now t)) (edges (now t)) ≤ length (now out)) ⌝ }
-    ensures { λ _. ⌜ now (out .exit) ≡ sets (now (out .entry)) start (gather (edgeBytes (now (t .entry)) tokens) (below (edges (now (t .entry))))) ⌝ }
+fn write_edges(t: &[u8], table: Table, tokens: &[u8], out: &mut [u8], start: usize)
+    requires { ⌜ (tableRead (now t) ≡ good table) × (table .edges ≤ length (now tokens))
+        × (start + total (edgeSize (now t)) (edges (now t)) ≤ length (now out)) ⌝ }
+    ensures { λ _. ⌜ now (out .exit)
+        ≡ sets (now (out .entry)) start (gather (edgeBytes (now (t .entry)) (now (tokens .entry))) (below (edges (now (t .entry))))) ⌝ }
 {
     let n = table.edges;
     let mut to: usize = start;
@@ -208,46 +205,35 @@ fn write_edges(
     }
 }
 
-// The whole marking, which takes `len` bytes, at the front of `out`. What stands behind it is left as it was.
-fn write(
-    t: &[u8],
-    table: Table,
-    state: u8,
-    len: usize,
-    old: &[u8],
-    extra: &[u8],
-    held: Held,
-    out: &mut [u8],
-)
-    requires { ⌜ (tableRead (now t) ≡ good table) × HeldInside (now t) (now old) (now extra) held × SizeFits (now t) held len (length (now out)) ⌝ }
-    ensures { λ _. ⌜ ((m : Marking) → MarkingHeld (now (t .entry)) m (now (old .entry)) (now (extra .entry)) held → state ≡ oneIf (m .ended)
-        → now (out .exit) ≡ encode (now (t .entry)) m ++ drop (length (encode (now (t .entry)) m)) (now (out .entry))) ⌝ }
-{
-    let tokens = held.tokens;
-    let next = write_nodes(t, table, old, extra, held, out);
-    write_edges(t, table, tokens, out, next);
-    // last, as what it stores to could be what was handed here: the compiler would copy all that is held once more
-    wire::write_head(len, state, out);
-}
-
-// The marking that is held, if the room is enough (row 17).
+// The marking that is held, at the front of `out`, if the room is enough (row 17). What stands behind it is left as it was.
 pub fn reply(
     t: &[u8],
     table: Table,
     state: u8,
     old: &[u8],
     extra: &[u8],
-    held: Held,
+    from: &[u16],
+    kept: &[u8],
+    place: &[u16],
+    more: &[u8],
+    runs: &[u8],
+    tokens: &[u8],
     out: &mut [u8],
 ) -> u64
-    requires { ⌜ (tableRead (now t) ≡ good table) × HeldInside (now t) (now old) (now extra) held ⌝ }
-    ensures { λ r. ⌜ ((m : Marking) → MarkingHeld (now (t .entry)) m (now (old .entry)) (now (extra .entry)) held → state ≡ oneIf (m .ended)
+    requires { ⌜ (tableRead (now t) ≡ good table) × HeldLengths (heldIn (now from) (now kept) (now place) (now more) (now runs) (now tokens))
+        × HeldInside (now t) (now old) (now extra) (heldIn (now from) (now kept) (now place) (now more) (now runs) (now tokens)) ⌝ }
+    ensures { λ r. ⌜ ((m : Marking) → MarkingHeld (now (t .entry)) m (now (old .entry)) (now (extra .entry))
+        (heldIn (now (from .entry)) (now (kept .entry)) (now (place .entry)) (now (more .entry)) (now (runs .entry)) (now (tokens .entry)))
+        → state ≡ oneIf (m .ended)
         → Reply (inRoom (length (now (out .entry))) (good (encode (now (t .entry)) m))) r (now (out .entry)) (now (out .exit))) ⌝ }
 {
-    let len = size(t, table, held);
+    let len = size(t, table, kept, more);
     if out.len() < len {
         return wire::pack(17, 0, 0);
     }
-    write(t, table, state, len, old, extra, held, out);
+    let next = write_nodes(t, table, old, extra, from, kept, place, more, runs, out);
+    write_edges(t, table, tokens, out, next);
+    // last, as what it stores to could be what was handed here: the compiler would copy all that is held once more
+    wire::write_head(len, state, out);
     wire::pack(0, 0, len)
 }

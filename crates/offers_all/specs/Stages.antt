@@ -6,21 +6,23 @@ use mathlib.Core.List.{List, [], _++_}
 use mathlib.Core.Option.{Option, none}
 use mathlib.Core.Logic.{_⊎_}
 use lib.ListN.{length, getD}
-use Rattle.paper.specs.Lists.{all, keep, each, gather}
+use Rattle.paper.specs.Lists.{at, all, keep, each, gather}
 use Rattle.paper.specs.Limits.{limits}
 use Rattle.paper.specs.Table.{nodes, edges, source, target, kind, into, isJoin, isControlNode, chain}
 use Rattle.paper.specs.Marking.{Marking}
-use Rattle.paper.specs.Offers.{Offer, parts, value, firsts, ways, handed, offersOn, offers}
+use Rattle.paper.specs.Offers.{Offer, parts, lastEdge, value, firsts, ways, handed, offersOn, offers}
 use Rattle.paper.proofs.Members.{In, Distinct}
 use Rattle.table.specs.declared.Table.{Table}
 use Rattle.table.specs.Incoming.{ListFrom, Forward, Incoming}
 use Rattle.table_ranks.specs.Chains.{Framed}
 use Rattle.terms.specs.Terms.{Ties}
+use Rattle.marking.specs.declared.reading.Fields.{Fields}
 use Rattle.offers.specs.Rows.{Rows, Holds, Seg, fine}
 use Rattle.offers_over.specs.Over.{Names, Feeds, admitted, begunOn}
 use Rattle.offers_over.specs.declared.Gate.{Gate}
 use Rattle.offers.specs.declared.Onto.{Onto}
 use Rattle.offers_over.specs.declared.Start.{Start}
+use Rattle.offers_first.specs.Starts.{FirstOffer}
 
 -- what goes over an edge: any gate will do
 abbrev pub Gates : Type 0
@@ -41,18 +43,26 @@ OneValue t goes on e =
     isJoin (kind t (source t e)) ≡ true → goes e none ≡ true
     → (w : Offer) → In w (ways t (each on (into t (source t e)))) → goes e (value w) ≡ all (λ p. goes e (value p)) (parts w)
 
--- what is known before the offers on an edge are put at the end of ts
-pub record Edge (t : List ℕ) (m : Marking) (goes : Gates) (r : Rows) (ts : List Offer) (on : ℕ → List Offer) (first next a b : List ℕ)
-    (o : Onto) (gate : Gate) (start : Start) : Type 0 where
+-- edge e as rows note it: with the node that it leaves, and that node's kind
+abbrev pub ontoEdge : List ℕ → ℕ → Onto
+ontoEdge t e = record { edge = e; node = source t e; kind = kind t (source t e) }
+
+-- what is known before the offers on an edge are put at the end of ts: they are what its gate lets over it of what its source hands on
+pub record Due (t : List ℕ) (m : Marking) (goes : Gates) (r : Rows) (ts : List Offer) (on : ℕ → List Offer) (o : Onto) (gate : Gate) : Type 0 where
   pub holds-ts : Holds t r ts
   pub names : Names t o
-  pub list : ListFrom next (getD first (o .node) 0) (into t (o .node))
   pub lets : (v : Option ℕ) → goes (o .edge) v ≡ admitted gate v
   pub is : on (o .edge) ≡ keep (λ x. goes (o .edge) (value x)) (handed t m on (o .edge))
-  pub segs : isControlNode (kind t (source t (o .edge))) ≡ true → (j : ℕ) → j < edges t → target t j ≡ source t (o .edge)
-      → Seg ts (getD a j 0) (getD b j 0) (on j)
   pub distinct : Distinct (ts ++ on (o .edge))
-  pub starts : isControlNode (kind t (source t (o .edge))) ≡ false → firsts t m (o .edge) ≡ begunOn (o .edge) (start .code) (start .value)
+
+-- and that the edge leaves a control node, whose incoming edges are done
+pub record Edge (t : List ℕ) (m : Marking) (goes : Gates) (r : Rows) (ts : List Offer) (on : ℕ → List Offer) (first next a b : List ℕ)
+    (o : Onto) (gate : Gate) : Type 0 where
+  pub due : Due t m goes r ts on o gate
+  pub control : isControlNode (kind t (source t (o .edge))) ≡ true
+  pub list : ListFrom next (getD first (o .node) 0) (into t (o .node))
+  pub segs : (j : ℕ) → j < edges t → target t j ≡ source t (o .edge) → Seg ts (getD a j 0) (getD b j 0) (on j)
+  pub lasts : (j : ℕ) (x : Offer) → In x (on j) → lastEdge x ≡ j
   pub one-value : OneValue t goes on (o .edge)
 
 -- ---- rounds
@@ -65,28 +75,40 @@ pub record Walkable (next : List ℕ) : Type 0 where
   pub forward : Forward next
   pub nexts : limits .mostEdges ≤ length next
 
--- what the builder needs of the table, and a guard, a first offer's code and value for each edge
-pub record Sized (t : List ℕ) (x : Table) (g st ol : List ℕ) : Type 0 where
+-- what the builder needs of the table, and a guard for each edge
+pub record Sized (t : List ℕ) (x : Table) (g : List ℕ) : Type 0 where
   pub framed : Framed t x
   pub guards : edges t ≤ length g
-  pub codes : edges t ≤ length st
-  pub values : edges t ≤ length ol
 
--- no chain of 16 control nodes ends at an edge's source, the gates are those of the guards g and the bounds x, and the first offers those of the marking
-pub record Input (t : List ℕ) (m : Marking) (goes : Gates) (g x st ol : List ℕ) : Type 0 where
+-- no chain of 16 control nodes ends at an edge's source, and the gates are those of the guards g and the bounds x
+pub record Input (t : List ℕ) (m : Marking) (goes : Gates) (g x : List ℕ) : Type 0 where
   pub ties : Ties t g x goes
   pub one-value : (e : ℕ) → e < edges t → OneValue t goes (onEdge t goes m) e
   pub flat : (j : ℕ) → j < edges t → chain t (limits .chainTooLong) (source t j) ≡ false
-  pub starts : (e : ℕ) → e < edges t → isControlNode (kind t (source t e)) ≡ false → firsts t m e ≡ begunOn e (getD st e 0) (getD ol e 0)
 
--- ranks rise along edges into control nodes, and there is a round for each
+-- what begins on an edge that leaves no control node, by the bytes b and the fields f, is its first offer in the marking
+abbrev pub FirstOffers : List ℕ → Marking → List ℕ → Fields → Type 0
+FirstOffers t m b f =
+    (e : ℕ) → e < edges t → isControlNode (kind t (source t e)) ≡ false → (s : Start)
+    → FirstOffer b (kind t (source t e)) (at (f .from) (source t e)) (at (f .kept) (source t e)) (at (f .tokens) e) s
+    → firsts t m e ≡ begunOn e (s .code) (s .value)
+
+-- ranks rise along edges into control nodes, and there is a round for each; no control node has rank 0, and only control nodes have others
 pub record Rising (t rk : List ℕ) : Type 0 where
   pub rises : (j : ℕ) → j < edges t → isControlNode (kind t (target t j)) ≡ true → rankOf t rk j < getD rk (target t j) 0
   pub low : (j : ℕ) → j < edges t → rankOf t rk j < limits .chainTooLong
+  pub begins : (j : ℕ) → j < edges t → rankOf t rk j ≡ 0 → isControlNode (kind t (source t j)) ≡ false
+  pub goes-on : (j : ℕ) → j < edges t → 1 ≤ rankOf t rk j → isControlNode (kind t (source t j)) ≡ true
 
--- what the rounds go by: ranks, and the lists of incoming edges
-pub record Plan (t : List ℕ) (m : Marking) (goes : Gates) (g x st ol rk first next : List ℕ) : Type 0 where
-  pub input : Input t m goes g x st ol
+-- what the first round goes by: ranks, and first offers
+pub record Opening (t : List ℕ) (m : Marking) (goes : Gates) (g x b : List ℕ) (f : Fields) (rk : List ℕ) : Type 0 where
+  pub input : Input t m goes g x
+  pub starts : FirstOffers t m b f
+  pub rising : Rising t rk
+
+-- what the others go by: ranks, and the lists of incoming edges
+pub record Plan (t : List ℕ) (m : Marking) (goes : Gates) (g x rk first next : List ℕ) : Type 0 where
+  pub input : Input t m goes g x
   pub rising : Rising t rk
   pub incoming : Incoming t first next
 
@@ -103,6 +125,10 @@ pub record Stage (t : List ℕ) (on : ℕ → List Offer) (rk : List ℕ) (r : �
   pub only : (j : ℕ) → In j ds → (j < edges t) × Done t rk r js j
   pub every : (j : ℕ) → j < edges t → Done t rk r js j → In j ds
   pub segs : (j : ℕ) → In j ds → Seg (gather on ds) (getD a j 0) (getD b j 0) (on j)
+
+-- those of rank r that are left are the list from edge e on
+abbrev pub LeftFrom : List ℕ → (ℕ → List Offer) → List ℕ → ℕ → List ℕ → ℕ → Rows → List ℕ → List ℕ → Type 0
+LeftFrom t on rk r after e rows a b = (js : List ℕ) × (ds : List ℕ) × ListFrom after e js × Stage t on rk r js rows a b ds
 
 -- after round r: all edges of rank r are done, or there are too many offers
 pub record AfterRound (t : List ℕ) (m : Marking) (goes : Gates) (rk : List ℕ) (r : ℕ) (rows : Rows) (ok : Bool) (a b : List ℕ) : Type 0 where

@@ -8,7 +8,7 @@ use mathlib.Core.Option.{Option, none}
 use lib.ListN.{length, getD}
 use Rattle.paper.specs.Lists.{all, any, each, gather, has}
 use Rattle.paper.specs.Table.{edges, target, into}
-use Rattle.paper.specs.Offers.{Offer, first, over, with, parts, makers, paths, value, orElse, compete, ways}
+use Rattle.paper.specs.Offers.{Offer, first, over, with, parts, lastEdge, makers, paths, value, orElse, compete, ways}
 use Rattle.paper.specs.Limits.{limits}
 use Rattle.paper.proofs.Members.{In, Distinct}
 use Rattle.table.specs.Incoming.{ListFrom}
@@ -18,6 +18,8 @@ use Rattle.offers.specs.Rows.{rowCells, Rows, Holds, Leads, valueOf, Seg}
 use Rattle.offers_over.specs.Over.{letOver, overs, LeavesControl}
 use Rattle.offers.specs.declared.Onto.{Onto}
 use Rattle.offers_join.specs.declared.Way.{Way}
+use Rattle.offers_join.specs.declared.Brought.{Brought}
+use Rattle.offers_join.specs.declared.Brought.the-variants.{OnEach, Nothing}
 
 -- ---- the search, on trees
 -- the offers of a way, as the join has them
@@ -126,11 +128,22 @@ pub record SegmentsOf (a b js lo hi : List ℕ) (d : ℕ) : Type 0 where
   pub lows : (i : ℕ) → i < length js → getD lo i 0 ≡ getD a (getD js i 0) 0
   pub highs : (i : ℕ) → i < length js → getD hi i 0 ≡ getD b (getD js i 0) 0
 
--- one of the first d edges has no offer
-pub record Bare (lo hi : List ℕ) (d : ℕ) : Type 0 where
-  pub edge : ℕ
-  pub listed : edge < d
-  pub none-there : getD hi edge 0 ≤ getD lo edge 0
+-- the edges js, at least one and no more than there may be offers, with their segments
+pub record Served (a b js lo hi : List ℕ) (d : ℕ) : Type 0 where
+  pub some-edge : 0 < d
+  pub few : d ≤ limits .mostOffers
+  pub segments : SegmentsOf a b js lo hi d
+
+-- there is no edge, or one without an offer, or more edges than there may be offers
+pub data Unserved (a b js : List ℕ) : Type 0 where
+  no-edge : js ≡ [] → Unserved a b js
+  bare : (j : ℕ) → In j js → getD b j 0 ≤ getD a j 0 → Unserved a b js
+  too-many : limits .mostOffers < length js → Unserved a b js
+
+-- what was found of the edges js
+abbrev pub Brings : List ℕ → List ℕ → List ℕ → List ℕ → List ℕ → Brought → Type 0
+Brings a b js lo hi (OnEach d) = Served a b js lo hi d
+Brings a b js lo hi Nothing = Unserved a b js
 
 -- the offers on the edges into the join are to be joined, as far as they go over the edge
 pub record Meeting (t : List ℕ) (goes : Option ℕ → Bool) (r : Rows) (ts : List Offer) (on : ℕ → List Offer)
@@ -138,6 +151,8 @@ pub record Meeting (t : List ℕ) (goes : Option ℕ → Bool) (r : Rows) (ts : 
   pub holds-ts : Holds t r ts
   pub list : ListFrom next (getD first (o .node) 0) (into t (o .node))
   pub segs : (j : ℕ) → j < edges t → target t j ≡ o .node → Seg ts (getD a j 0) (getD b j 0) (on j)
+  -- an offer is on one edge only, so more edges than offers are never all served
+  pub lasts : (j : ℕ) (x : Offer) → In x (on j) → lastEdge x ≡ j
   pub distinct : Distinct (ts ++ overs (o .edge) (letOver goes (ways t (each on (into t (o .node))))))
   pub leaves : LeavesControl t o
   -- of the offers taken together at most one has a value, so a way goes over the edge exactly if each of its offers does

@@ -35,7 +35,7 @@ ghost use Rattle.offers_ahead.specs.Dead.{Dead, AheadRoom};
 ghost use Rattle.offers.specs.Sets.{nth};
 ghost use Rattle.offers.specs.Rows.{rowCells, rowsIn, Holds};
 ghost use Rattle.offers_over.specs.Over.{admitted, letOver, LeavesControl, Outcome, overs, Space, Feeds};
-ghost use Rattle.offers_join.specs.Joins.{together, foundWays, Taken, Picked, RivalRow, Rivals, Span, SegmentWords, BarredRows, Within, Safe, Dfs, SegmentsOf, Bare, Meeting};
+ghost use Rattle.offers_join.specs.Joins.{together, foundWays, Taken, Picked, RivalRow, Rivals, Span, SegmentWords, BarredRows, Within, Safe, Dfs, Brings, Meeting};
 ghost use Rattle.paper.specs.Limits.{limits};
 
 // The offers that compete with offer i.
@@ -291,7 +291,14 @@ fn join(
     Grown { count: c, ok: true }
 }
 
-// The segments of the incoming edges of node s, in order, and their number.
+// What the edges into a join bring: offers on each of so many edges, or nothing that can be joined.
+enum Brought {
+    OnEach(usize),
+    Nothing,
+}
+
+// The segments of the incoming edges of node s, in order, and their number. Each edge needs an offer of its own: nothing comes through where one has none,
+// nor where there are more edges than there may be offers.
 fn incoming(
     first: &[u8],
     next: &[u8],
@@ -300,34 +307,28 @@ fn incoming(
     s: u8,
     lo: &mut [u8],
     hi: &mut [u8],
-) -> usize
-    requires { ⌜ Feeds (now first) (now next) s × (((limits .mostEdges ≤ length (now from)) × (limits .mostEdges ≤ length (now to))) × ((limits .mostEdges ≤ length (now lo)) × (limits .mostEdges ≤ length (now hi)))) ⌝ }
-    ensures { λ r. ⌜ (r ≤ limits .mostEdges) × ((js : List ℕ) → ListFrom (now (next .entry)) (getD (now (first .entry)) s 0) js → SegmentsOf (now (from .entry)) (now (to .entry)) js (now (lo .exit)) (now (hi .exit)) r) ⌝ }
+) -> Brought
+    requires { ⌜ Feeds (now first) (now next) s × (((limits .mostEdges ≤ length (now from)) × (limits .mostEdges ≤ length (now to))) × ((limits .mostOffers ≤ length (now lo)) × (limits .mostOffers ≤ length (now hi)))) ⌝ }
+    ensures { λ r. ⌜ ((js : List ℕ) → ListFrom (now (next .entry)) (getD (now (first .entry)) s 0) js → Brings (now (from .entry)) (now (to .entry)) js (now (lo .exit)) (now (hi .exit)) r) ⌝ }
 {
     let mut d: usize = 0;
     let mut j = wide(first[wide(s)]);
     while j < Table::MOST_EDGES {
+        if MOST_OFFERS <= d {
+            return Brought::Nothing; // more edges than offers
+        }
+        if to[j] <= from[j] {
+            return Brought::Nothing;
+        }
         lo[d] = from[j];
         hi[d] = to[j];
         d += 1;
         j = wide(next[j]);
     }
-    d
-}
-
-// Whether one of d edges has no offer: nothing then comes through the join.
-fn is_bare(lo: &[u8], hi: &[u8], d: usize) -> bool
-    requires { ⌜ (d ≤ length (now lo)) × (d ≤ length (now hi)) ⌝ }
-    ensures { λ r. ⌜ (r ≡ true → Bare (now (lo .entry)) (now (hi .entry)) d) ⌝ }
-{
-    let mut k: usize = 0;
-    while k < d {
-        if hi[k] <= lo[k] {
-            return true;
-        }
-        k += 1;
+    if d == 0 {
+        return Brought::Nothing;
     }
-    false
+    Brought::OnEach(d)
 }
 
 // The offers on the edges into a join, joined as far as the gate lets them.
@@ -344,24 +345,20 @@ pub fn meet(
     requires { ⌜ Space (now rows) (now from) (now to) count × Feeds (now first) (now next) (onto .node) ⌝ }
     ensures { λ r. ⌜ ((count ≤ r .count) × (r .count ≤ limits .mostOffers)) × ((t : List ℕ) (ts : List Offer) (on : ℕ → List Offer) → Meeting t (admitted gate) (rowsIn (now (rows .entry)) count) ts on (now (first .entry)) (now (next .entry)) (now (from .entry)) (now (to .entry)) onto → Outcome t (rowsIn (now (rows .exit)) (r .count)) (r .ok) (ts ++ overs (onto .edge) (letOver (admitted gate) (ways t (each on (into t (onto .node))))))) ⌝ }
 {
-    let mut lo = [0u8; Table::MOST_EDGES];
-    let mut hi = [0u8; Table::MOST_EDGES];
-    let d = incoming(first, next, from, to, onto.node, &mut lo, &mut hi);
-    if d == 0 {
-        return Grown {
-            count: count,
-            ok: true,
-        };
-    }
-    if is_bare(&lo, &hi, d) {
-        return Grown {
-            count: count,
-            ok: true,
-        };
-    }
-    let mut edges = [0u64; Table::MOST_EDGES];
+    let mut lo = [0u8; MOST_OFFERS];
+    let mut hi = [0u8; MOST_OFFERS];
+    let d = match incoming(first, next, from, to, onto.node, &mut lo, &mut hi) {
+        Brought::OnEach(d) => d,
+        Brought::Nothing => {
+            return Grown {
+                count: count,
+                ok: true,
+            }
+        }
+    };
+    let mut edges = [0u64; MOST_OFFERS];
     let mut rivals = [0u64; MOST_OFFERS];
-    let mut chosen = [0u8; Table::MOST_EDGES];
+    let mut chosen = [0u8; MOST_OFFERS];
     let wanted = spans(&lo, &hi, d, &mut edges);
     rival_rows(rows, count, wanted, &mut rivals);
     let blocked = barred(rows, count, gate);

@@ -1,10 +1,11 @@
--- A marking or a sheet always fits in 4,096 bytes, a choice in 20, a reason in 1: a call that lends that much is never refused 17, and two such calls on the same bytes return
+-- A marking always fits in as many bytes as the limits say, a sheet in 4,096, a choice in 20, a reason in 1: a call that lends that much is never refused 17, and two such calls on the same bytes return
 -- the same word and show the same bytes. Of step it is assumed that what it reads as the marking are bytes, each below 256; of the others nothing.
 use mathlib.Core.Path.{_≡_, sym, subst}
 use Prim.Native.Nat.{ℕ, _≤_}
 use native.Mathlib.Omega.{arith}
 use mathlib.Core.List.{List, _++_}
 use lib.ListN.{length, drop}
+use Rattle.paper.specs.Limits.{limits}
 use Rattle.paper.specs.Answers.{Answer, refused, good}
 use Rattle.paper.specs.Offers.{Terms}
 use Rattle.paper.specs.Operations.{step, Leaves}
@@ -18,12 +19,12 @@ use Rattle.paper.proofs.OneWord.{replies-most, shown, same-shown}
 
 abbrev pub roomNeeded : Call → ℕ
 roomNeeded (checks t) = 0
-roomNeeded (starts t b) = 4096
+roomNeeded (starts t b) = limits .longestMarking
 roomNeeded (sheets t b w) = 4096
 roomNeeded (picks t b w n) = 20
 roomNeeded (whys t b w n) = 1
-roomNeeded (steps t b w ks) = 4096
-roomNeeded (finishes t b a vs) = 4096
+roomNeeded (steps t b w ks) = limits .longestMarking
+roomNeeded (finishes t b a vs) = limits .longestMarking
 
 abbrev pub BytesLent : Call → Type 0
 BytesLent (checks t) = Unit {0}
@@ -34,12 +35,12 @@ BytesLent (whys t b w n) = Unit {0}
 BytesLent (steps t b w ks) = Bytes b
 BytesLent (finishes t b a vs) = Unit {0}
 
-step-most : (t b : List ℕ) (w : Terms) (ks : List ℕ) → Bytes b → (a : Answer (List ℕ)) → a ≡ step t b w ks → length (replyOf a) ≤ 4096
+step-most : (t b : List ℕ) (w : Terms) (ks : List ℕ) → Bytes b → (a : Answer (List ℕ)) → a ≡ step t b w ks → length (replyOf a) ≤ limits .longestMarking
 step-most t b w ks u (refused k p) h = omega arith
 step-most t b w ks u (good out) h =
     let r = step-meant t b w ks out u (sym h) in
     let f = board-good t b w (r .0) (r .2) .table-fine in
-    subst (λ (x : List ℕ). length x ≤ 4096) (r .4 .written) (encode-fits t (r .1) f (r .4 .is-good))
+    subst (λ (x : List ℕ). length x ≤ limits .longestMarking) (r .4 .written) (encode-fits t (r .1) f (r .4 .is-good))
 
 -- every reply fits
 pub reply-fits : (c : Call) → BytesLent c → (a : Answer (List ℕ)) → AllowedBy c a → length (replyOf a) ≤ roomNeeded c

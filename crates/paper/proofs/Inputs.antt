@@ -1,4 +1,4 @@
--- "It reads the first 8,192 bytes at most; no good input is longer.": an input that makes a board has no more, so all of it is read, and bytes behind them
+-- "It reads the first .. bytes at most; no good input is longer.": an input that makes a board has no more, so all of it is read, and bytes behind them
 -- change nothing. What may be printed for an input is one text. Assumes nothing.
 use mathlib.Core.Path.{_≡_, sym, ap, subst, _∙_}
 use Prim.Native.Nat.{ℕ, _+_, _≤_}
@@ -34,20 +34,20 @@ guards-length : (t g : List ℕ) → guardsFine t g ≡ true → length g ≡ ed
 unfolding guardsFine
 guards-length t g h = eqb-true _ _ (and-true (eqb (length g) (edges t)) _ h .0)
 
--- 453 bytes of table, 4,096 of marking and 64 of guards at most
+-- a table, a marking and guards at their longest
 pub input-fits : (s : List ℕ) (d : Board) → Bytes s → board (tablePart s) (markingPart s) (termsPart s) ≡ good d → length s ≤ mostInput
 input-fits s d u h =
     let f = board-good (tablePart s) (markingPart s) (termsPart s) d h in
     let r = table-good (tablePart s) limits (f .table-fine) .frame in
     let q = read-is-good (tablePart s) (markingPart s) (d .current) (part-bytes (behind s) (under-drop 256 s (partLength s) u)) (f .is-read) in
-    let m : length (markingPart s) ≤ 4096 = subst (λ (b : List ℕ). length b ≤ 4096) (q .1) (encode-fits (tablePart s) (d .current) (f .table-fine) (q .0)) in
+    let m : length (markingPart s) ≤ limits .longestMarking = subst (λ (b : List ℕ). length b ≤ limits .longestMarking) (q .1) (encode-fits (tablePart s) (d .current) (f .table-fine) (q .0)) in
     omega (arith, part-length s, part-length (behind s), guards-length (tablePart s) (guardsPart s) (f .facts .guards-fine))
 
 -- a good input is read whole
 pub read-whole : (input : List ℕ) (d : Board) → Bytes input → board (tablePart input) (markingPart input) (termsPart input) ≡ good d → readOf input ≡ input
 read-whole input d u h = take-all mostInput input (input-fits input d u h)
 
--- ---- what is printed for an input is what is printed for its first 8,192 bytes
+-- ---- what is printed for an input is what is printed for what is read of it
 pub read-again : (input : List ℕ) → readOf (readOf input) ≡ readOf input
 read-again input = take-all mostInput (readOf input) (omega (arith, length-take mostInput input))
 

@@ -21,6 +21,7 @@ pub mod Origins
 pub mod Sameness
 pub mod Paths
 pub mod Fuel
+pub mod WideJoins
 pub mod Cycles
 pub mod Competing
 pub mod Values
@@ -49,6 +50,7 @@ pub mod Named
 pub mod Reasons
 pub mod EmptyChoice
 pub mod Calls
+pub mod OtherLimits
 pub mod SameAnswer
 pub mod OneWord
 pub mod EnoughRoom

@@ -13,7 +13,7 @@ use lib.ListN.{length, length-append}
 use borrow.Author.Tests.{ltb-true, eqb-true, eq-eqb}
 use Rattle.paper.specs.Lists.{at, below, keep, gather, each, oneIf}
 use Rattle.paper.specs.Answers.{good}
-use Rattle.paper.specs.Limits.{limits}
+use Rattle.paper.specs.Limits.{Limits, limitsFor, limits}
 use Rattle.paper.specs.Bytes.{sized, listed, framed, Reader, goOn, _>>=_, done, fail, byte, upTo, valuesRead, whole}
 use Rattle.paper.specs.Table.{nodes, edges, kind, upper, isAction, isObjectNode, tableFine}
 use Rattle.paper.specs.Marking.{Marking, blank, Field, stockOf, runsOf, tokensOf, written, counted, nodeFields, layout, encode, fieldRead}
@@ -333,18 +333,24 @@ module _ (t : List ℕ) where
       omega (arith, length-from 0 (edges t))
 
   -- ---- under a good table
-  pub stocks-small : (m : Marking) → tableFine t limits ≡ good tt → Good t m → (i : ℕ) → length (m .stock i) ≤ 16
-  stocks-small m f g i = ⊎-elim held (λ n. let p : length (m .stock i) ≤ 0 = rw n at (g .stocks i) in omega arith) (true-or-false (hasStock t i))
+  pub stocks-small : (l : Limits) (m : Marking) → tableFine t l ≡ good tt → Good t m → (i : ℕ) → length (m .stock i) ≤ l .mostUpper
+  stocks-small l m f g i = ⊎-elim held (λ n. let p : length (m .stock i) ≤ 0 = rw n at (g .stocks i) in omega arith) (true-or-false (hasStock t i))
     where
-      held : hasStock t i ≡ true → length (m .stock i) ≤ 16
+      held : hasStock t i ≡ true → length (m .stock i) ≤ l .mostUpper
       held y =
           let p : length (m .stock i) ≤ upper t i = rw y at (g .stocks i) in
-          let l : i < nodes t = ltb-true i (nodes t) (and-true (ltb i (nodes t)) _ y .0) in
-          omega (arith, upper-fits (table-good t limits f .node i l))
+          let k : i < nodes t = ltb-true i (nodes t) (and-true (ltb i (nodes t)) _ y .0) in
+          omega (arith, upper-fits (table-good t l f .node i k))
 
-  -- "A marking fits within 4,096 bytes."
-  pub encode-fits : (m : Marking) → tableFine t limits ≡ good tt → Good t m → length (encode t m) ≤ 4096
-  encode-fits m f g = let r = table-good t limits f .frame in omega (arith, encode-length 16 m (λ i l. stocks-small m f g i))
+  -- whatever the limits are, they bound a marking's length: 65 bytes a node and a byte an edge behind the first four
+  pub encode-within : (n e b : ℕ) (m : Marking) → tableFine t (limitsFor n e b) ≡ good tt → Good t m → length (encode t m) ≤ 4 + 65 * n + e
+  encode-within n e b m f g =
+      let r = table-good t (limitsFor n e b) f .frame in
+      omega (arith, r .nodes-fit, r .edges-fit, encode-length 16 m (λ i k. stocks-small (limitsFor n e b) m f g i))
+
+  -- "A marking fits within .. bytes."
+  pub encode-fits : (m : Marking) → tableFine t limits ≡ good tt → Good t m → length (encode t m) ≤ limits .longestMarking
+  encode-fits m f g = omega (arith, encode-within (limits .mostNodes) (limits .mostEdges) (limits .longestMarking) m f g)
 
   written-bytes : (m : Marking) → ((i : ℕ) → length (m .stock i) ≤ 16) → (f : Field) → Fits t f (content m f) → Bytes (written m f)
   unfolding written
@@ -356,7 +362,7 @@ module _ (t : List ℕ) where
   unfolding encode
   encode-bytes m f g =
       let w = gather (written m) (layout t) in
-      let u : Bytes w = under-gather 256 (written m) (layout t) (omega arith) (λ x i. written-bytes m (stocks-small m f g) x (good-fits m g x i)) in
+      let u : Bytes w = under-gather 256 (written m) (layout t) (omega arith) (λ x i. written-bytes m (stocks-small limits m f g) x (good-fits m g x i)) in
       sized-bytes (1 ∷ oneIf (m .ended) ∷ w)
       (under-cons 256 1 (oneIf (m .ended) ∷ w) (omega arith) (under-append 256 (oneIf (m .ended) ∷ []) w (flag-byte (m .ended)) u))
 

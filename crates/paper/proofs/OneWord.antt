@@ -1,7 +1,7 @@
 -- The word is one to one: whatever an operation answers, its number is at most 18 and 0 exactly if nothing is refused, its place is below 256 and its reply below
 -- 2^32 bytes, so the word gives each of the three back. Assumes of pick that the node asked for is a byte (row 13's place is that node); of the others nothing.
 use mathlib.Core.Path.{_≡_, refl, sym, ap, _∙_}
-use Prim.Native.Nat.{ℕ, _/_, _%_, _^_, _≤_, _<_}
+use Prim.Native.Nat.{ℕ, _+_, _*_, _/_, _%_, _^_, _≤_, _<_}
 use native.Mathlib.Omega.{arith}
 use mathlib.Core.Bool.{Bool, true, false, not, _&&_, cond}
 use mathlib.Core.Logic.{_⊎_, inl, inr, ⊎-elim}
@@ -98,7 +98,7 @@ board-rows t b w =
 
 -- ---- rows 10 to 12
 module _ (t b : List ℕ) (w : Terms) (d : Board) (h : board t b w ≡ good d) where
-  few-nodes : nodes (d .table) ≤ 48
+  few-nodes : nodes (d .table) ≤ limits .mostNodes
   few-nodes = let f = board-good t b w d h in rw (f .facts .is-table) (table-good t limits (f .table-fine) .frame .nodes-fit)
 
   rule1-place : (c p : ℕ) → rule1 d c ≡ some p → p < 256
@@ -142,10 +142,14 @@ room-most t m f h i l =
 abbrev UpTo : ℕ → List ℕ → Type 0
 UpTo n b = length b ≤ n
 
-written-16 : (t : List ℕ) (m : Marking) → tableFine t limits ≡ good tt → Most 16 t m → UpTo 4096 (encode t m)
+written-16 : (t : List ℕ) (m : Marking) → tableFine t limits ≡ good tt → Most 16 t m → UpTo (limits .longestMarking) (encode t m)
 written-16 t m f h = let r = table-good t limits f .frame in omega (arith, encode-length t 16 m h)
 
-written-36 : (t : List ℕ) (m : Marking) → tableFine t limits ≡ good tt → Most 36 t m → UpTo 8192 (encode t m)
+-- a step adds to a stock at most as many values as there are ends
+abbrev mostStepped : ℕ
+mostStepped = 4 + (1 + 4 * 36) * limits .mostNodes + limits .mostEdges
+
+written-36 : (t : List ℕ) (m : Marking) → tableFine t limits ≡ good tt → Most 36 t m → UpTo mostStepped (encode t m)
 written-36 t m f h = let r = table-good t limits f .frame in omega (arith, encode-length t 36 m h)
 
 -- ---- start and finish
@@ -158,11 +162,11 @@ startOf-rows t b f =
     let m = given (λ e. hasTokens t e && isInitial (kind t (source t e))) ps vss (blank false) in
     rows-then _ (Most 16 t) (need 16 (roomIn t m)) _ (need-rows 16 (roomIn t m) (omega arith, omega arith)) (λ u e r. room-most t m f r))
 
-start-rows : (t b : List ℕ) → Rows (UpTo 4096) (start t b)
+start-rows : (t b : List ℕ) → Rows (UpTo (limits .longestMarking)) (start t b)
 unfolding start
 start-rows t b =
-    rows-then Passed (UpTo 4096) (tableFine t limits) _ (table-rows t)
-    (λ u f x. rows-then (Most 16 t) (UpTo 4096) (startOf t b) _ (startOf-rows t b f) (λ m e r. written-16 t m f r))
+    rows-then Passed (UpTo (limits .longestMarking)) (tableFine t limits) _ (table-rows t)
+    (λ u f x. rows-then (Most 16 t) (UpTo (limits .longestMarking)) (startOf t b) _ (startOf-rows t b f) (λ m e r. written-16 t m f r))
 
 finishOf-rows : (t : List ℕ) (m : Marking) (a : ℕ) (vs : List ℕ) → tableFine t limits ≡ good tt → Rows (Most 16 t) (finishOf t m a vs)
 unfolding finishOf
@@ -174,12 +178,12 @@ finishOf-rows t m a vs f =
     let m′ = given (λ e. hasTokens t e && eqb (source t e) a) (outputs t a) vss (idled t a m) in
     rows-then _ (Most 16 t) (need 16 (roomIn t m′)) _ (need-rows 16 (roomIn t m′) (omega arith, omega arith)) (λ u e r. room-most t m′ f r))))
 
-finish-rows : (t b : List ℕ) (a : ℕ) (vs : List ℕ) → Rows (UpTo 4096) (finish t b a vs)
+finish-rows : (t b : List ℕ) (a : ℕ) (vs : List ℕ) → Rows (UpTo (limits .longestMarking)) (finish t b a vs)
 unfolding finish
 finish-rows t b a vs =
-    rows-then Passed (UpTo 4096) (tableFine t limits) _ (table-rows t)
-    (λ u f x. rows-then _ (UpTo 4096) (known 5 (marking t b)) _ (known-rows 5 (marking t b) (omega arith, omega arith))
-    (λ m e x. rows-then (Most 16 t) (UpTo 4096) (finishOf t m a vs) _ (finishOf-rows t m a vs f) (λ m′ e r. written-16 t m′ f r)))
+    rows-then Passed (UpTo (limits .longestMarking)) (tableFine t limits) _ (table-rows t)
+    (λ u f x. rows-then _ (UpTo (limits .longestMarking)) (known 5 (marking t b)) _ (known-rows 5 (marking t b) (omega arith, omega arith))
+    (λ m e x. rows-then (Most 16 t) (UpTo (limits .longestMarking)) (finishOf t m a vs) _ (finishOf-rows t m a vs f) (λ m′ e r. written-16 t m′ f r)))
 
 -- ---- step: a stock of 16 at most, and 20 ends at most
 module _ (t b : List ℕ) (w : Terms) (d : Board) (h : board t b w ≡ good d) (c : ℕ) where
@@ -215,11 +219,11 @@ module _ (t b : List ℕ) (w : Terms) (d : Board) (h : board t b w ≡ good d) (
       let m = gain d c (spend d c (d .current)) in
       either-way (Most 36 t) (any (λ o. isActivityFinal (kind (d .table) (targetOf (d .table) o))) (takenEnds d c)) (endedOf (d .table) m) m (ended-most m moved-most) moved-most
 
-step-rows : (t b : List ℕ) (w : Terms) (ks : List ℕ) → Rows (UpTo 8192) (step t b w ks)
+step-rows : (t b : List ℕ) (w : Terms) (ks : List ℕ) → Rows (UpTo mostStepped) (step t b w ks)
 unfolding step stepOf
 step-rows t b w ks =
-    rows-then Passed (UpTo 8192) (board t b w) _ (board-rows t b w)
-    (λ d e x. rows-then (Most 36 t) (UpTo 8192) (stepOf d ks) _
+    rows-then Passed (UpTo mostStepped) (board t b w) _ (board-rows t b w)
+    (λ d e x. rows-then (Most 36 t) (UpTo mostStepped) (stepOf d ks) _
     (rows-then _ (Most 36 t) (need 9 (rising ks && all (λ k. ltb k (howMany d)) ks)) _ (need-rows 9 (rising ks && all (λ k. ltb k (howMany d)) ks) (omega arith, omega arith))
     (λ u q x. rows-then Passed (Most 36 t) (judgedBy (rules d) (choiceOf ks)) _ (judged-rows t b w d e (choiceOf ks)) (λ u q x. next-most t b w d e (choiceOf ks))))
     (λ m q r. written-36 t m (board-good t b w d e .table-fine) r))
@@ -264,12 +268,12 @@ why-rows t b w n = by (board t b w) (board-rows t b w)
 -- a step's is 4,096 at most where what is lent are bytes: `EnoughRoom`
 abbrev pub mostReply : Call → ℕ
 mostReply (checks t) = 0
-mostReply (starts t b) = 4096
+mostReply (starts t b) = limits .longestMarking
 mostReply (sheets t b w) = 2864
 mostReply (picks t b w n) = 20
 mostReply (whys t b w n) = 1
-mostReply (steps t b w ks) = 8192
-mostReply (finishes t b a vs) = 4096
+mostReply (steps t b w ks) = mostStepped
+mostReply (finishes t b a vs) = limits .longestMarking
 
 rows-reply : (n : ℕ) (a : Answer (List ℕ)) → Rows (UpTo n) a → UpTo n (replyOf a)
 rows-reply n (refused k p) h = omega arith
@@ -277,12 +281,12 @@ rows-reply n (good b) h = h
 
 pub replies-most : (c : Call) (a : Answer (List ℕ)) → AllowedBy c a → length (replyOf a) ≤ mostReply c
 replies-most (checks t) a h = rw h (rows-reply 0 (check t) (check-rows t))
-replies-most (starts t b) a h = rw h (rows-reply 4096 (start t b) (start-rows t b))
+replies-most (starts t b) a h = rw h (rows-reply (limits .longestMarking) (start t b) (start-rows t b))
 replies-most (sheets t b w) a h = rw h (rows-reply 2864 (sheet t b w) (sheet-rows t b w))
 replies-most (picks t b w n) a h = pick-most t b w n a h
 replies-most (whys t b w n) a h = rows-reply 1 a (why-rows t b w n a h)
-replies-most (steps t b w ks) a h = rw h (rows-reply 8192 (step t b w ks) (step-rows t b w ks))
-replies-most (finishes t b x vs) a h = rw h (rows-reply 4096 (finish t b x vs) (finish-rows t b x vs))
+replies-most (steps t b w ks) a h = rw h (rows-reply mostStepped (step t b w ks) (step-rows t b w ks))
+replies-most (finishes t b x vs) a h = rw h (rows-reply (limits .longestMarking) (finish t b x vs) (finish-rows t b x vs))
 
 most-short : (c : Call) → mostReply c < 2 ^ 32
 most-short (checks t) = omega arith
@@ -318,12 +322,12 @@ rows-small P (good b) h = (refl, omega arith, omega arith)
 
 small : (c : Call) → ByteNode c → (a : Answer (List ℕ)) → AllowedBy c a → Small a
 small (checks t) l a h = rw h (rows-small (UpTo 0) (check t) (check-rows t))
-small (starts t b) l a h = rw h (rows-small (UpTo 4096) (start t b) (start-rows t b))
+small (starts t b) l a h = rw h (rows-small (UpTo (limits .longestMarking)) (start t b) (start-rows t b))
 small (sheets t b w) l a h = rw h (rows-small (UpTo 2864) (sheet t b w) (sheet-rows t b w))
 small (picks t b w n) l a h = rows-small Passed a (pick-rows t b w n l a h)
 small (whys t b w n) l a h = rows-small (UpTo 1) a (why-rows t b w n a h)
-small (steps t b w ks) l a h = rw h (rows-small (UpTo 8192) (step t b w ks) (step-rows t b w ks))
-small (finishes t b x vs) l a h = rw h (rows-small (UpTo 4096) (finish t b x vs) (finish-rows t b x vs))
+small (steps t b w ks) l a h = rw h (rows-small (UpTo mostStepped) (step t b w ks) (step-rows t b w ks))
+small (finishes t b x vs) l a h = rw h (rows-small (UpTo (limits .longestMarking)) (finish t b x vs) (finish-rows t b x vs))
 
 -- an answer that a word can say
 pub record Sayable (a : Answer (List ℕ)) : Type 0 where

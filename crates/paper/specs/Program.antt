@@ -12,9 +12,9 @@ use Rattle.paper.specs.Offers.{Terms, terms, noBounds, lastEdge, value, 
 use Rattle.paper.specs.Choices.{Board, board, howMany, end}
 use Rattle.paper.specs.Operations.{Pick}
 
--- ---- "It reads the first 8,192 bytes at most; no good input is longer."
+-- ---- "It reads the first .. bytes at most; no good input is longer."; wish 6: "the program reads up to 16,384"
 abbrev pub mostInput : ℕ
-mostInput = 8192
+mostInput = 16384
 
 -- what is read of an input: the stream that is cut
 abbrev pub readOf : List ℕ → List ℕ

@@ -77,7 +77,7 @@ module _ (t : List ℕ) where
   abbrev pub header : ℕ
   header = 5
 
-  -- "version 1, node count n (1 to 48), edge count e (0 to 64)"
+  -- "version 1, node count n .., edge count e ..": how many of each is a limit
   unfoldable pub version : ℕ
   version = at t 2
 

@@ -1,5 +1,5 @@
 // pick on a board: the first acceptable choice, or the first that has an end of the named node, looked for and written.
-// Takes a board's offers, its ends and what is held by value; what they mean is said of any board that stands in them (`Stands`).
+// Takes a board's offers, its ends and what is kept of a marking by value; what they mean is said of any board that stands in them (`Stands`).
 ghost use mathlib.Core.Path.{_≡_};
 ghost use mathlib.Core.Bool.{true, _&&_};
 ghost use Prim.Native.Nat.{ℕ, _+_, _^_, _≤_, _<_};
@@ -11,13 +11,11 @@ ghost use Rattle.paper.specs.Operations.{Leaves, wanted, PickOn};
 ghost use Rattle.table.specs.Reading.{tableRead};
 ghost use Rattle.offers.specs.Struct.{Full};
 ghost use Rattle.ends_masks.specs.Seating.{EndsFull, Stands};
-ghost use Rattle.marking_held.specs.MarkingHeld.{HeldLengths};
-ghost use Rattle.pick_bounds.specs.Net.{held as heldOf};
+ghost use Rattle.pick_bounds.specs.Net.{held};
 ghost use Rattle.pick_rules.specs.Rules.{mostRules, netCells, holds};
 ghost use Rattle.pick.specs.Picking.{Answered};
 ghost use Rattle.paper.specs.Limits.{limits};
 use ends_masks::Ends;
-use marking_held::Held;
 use offers::Offers;
 use pick_bounds::Wanted;
 use pick_search::ChoiceFound;
@@ -35,16 +33,16 @@ fn prepare(
     table: Table,
     offers: Offers,
     ends: Ends,
-    held: Held,
+    kept: [u8; Table::MOST_NODES],
     node: u8,
     net: &mut [u32],
 ) -> Question
-    requires { ⌜ (tableRead (now t) ≡ good table) × Full offers × EndsFull ends × HeldLengths held × (netCells ≤ length (now net)) ⌝ }
-    ensures { λ r. ⌜ (r .rules ≤ mostRules) × ((d : Board) → Stands (now (t .entry)) d offers ends (held .runs) (held .kept) → (c : ℕ) → holds (now (net .exit)) (r .rules) (ends .count) c && leb (r .want .least) (heldOf (ends .count) c (r .want .ends)) ≡ wanted d node c) ⌝ }
+    requires { ⌜ (tableRead (now t) ≡ good table) × Full offers × EndsFull ends × (length kept ≡ limits .mostNodes) × (netCells ≤ length (now net)) ⌝ }
+    ensures { λ r. ⌜ (r .rules ≤ mostRules) × ((d : Board) → Stands (now (t .entry)) d offers ends kept kept → (c : ℕ) → holds (now (net .exit)) (r .rules) (ends .count) c && leb (r .want .least) (held (ends .count) c (r .want .ends)) ≡ wanted d node c) ⌝ }
 {
     let target = ends.target;
     let home = ends.home;
-    let rules = pick_rules::fill(net, t, table, offers, ends, held);
+    let rules = pick_rules::fill(net, t, table, offers, ends, kept);
     Question {
         rules: rules,
         want: pick_wanted::wanted(&target, &home, ends.count, node),
@@ -54,7 +52,7 @@ fn prepare(
 // The first set of n ends that obeys the rules of a net and holds what is wanted.
 pub fn first(net: &[u32], asked: Question, n: usize) -> ChoiceFound
     requires { ⌜ (n ≤ limits .mostEnds) × (asked .rules ≤ mostRules) × (netCells ≤ length (now net)) ⌝ }
-    ensures { λ r. ⌜ Answered (λ c. holds (now (net .entry)) (asked .rules) n c && leb (asked .want .least) (heldOf n c (asked .want .ends))) n r ⌝ }
+    ensures { λ r. ⌜ Answered (λ c. holds (now (net .entry)) (asked .rules) n c && leb (asked .want .least) (held n c (asked .want .ends))) n r ⌝ }
 {
     pick_search::first(&net[0..pick_bounds::ENDS + 4 * asked.rules], asked.want, n)
 }
@@ -65,14 +63,14 @@ pub fn choose(
     table: Table,
     offers: Offers,
     ends: Ends,
-    held: Held,
+    kept: [u8; Table::MOST_NODES],
     node: u8,
 ) -> ChoiceFound
-    requires { ⌜ (tableRead (now t) ≡ good table) × Full offers × EndsFull ends × HeldLengths held ⌝ }
-    ensures { λ r. ⌜ ((d : Board) → Stands (now (t .entry)) d offers ends (held .runs) (held .kept) → Answered (wanted d node) (howMany d) r) ⌝ }
+    requires { ⌜ (tableRead (now t) ≡ good table) × Full offers × EndsFull ends × (length kept ≡ limits .mostNodes) ⌝ }
+    ensures { λ r. ⌜ ((d : Board) → Stands (now (t .entry)) d offers ends kept kept → Answered (wanted d node) (howMany d) r) ⌝ }
 {
     let mut net = [0u32; pick_rules::CELLS];
-    let asked = prepare(t, table, offers, ends, held, node, &mut net);
+    let asked = prepare(t, table, offers, ends, kept, node, &mut net);
     first(&net, asked, ends.count)
 }
 
@@ -85,12 +83,19 @@ pub fn effort(net: &[u32], asked: Question, n: usize) -> usize
 }
 
 // How many the search for that choice visits.
-pub fn states(t: &[u8], table: Table, offers: Offers, ends: Ends, held: Held, node: u8) -> usize
-    requires { ⌜ (tableRead (now t) ≡ good table) × Full offers × EndsFull ends × HeldLengths held ⌝ }
+pub fn states(
+    t: &[u8],
+    table: Table,
+    offers: Offers,
+    ends: Ends,
+    kept: [u8; Table::MOST_NODES],
+    node: u8,
+) -> usize
+    requires { ⌜ (tableRead (now t) ≡ good table) × Full offers × EndsFull ends × (length kept ≡ limits .mostNodes) ⌝ }
     ensures { λ r. ⌜ (1 ≤ r) × (r < 2 ^ (ends .count + 22)) ⌝ }
 {
     let mut net = [0u32; pick_rules::CELLS];
-    let asked = prepare(t, table, offers, ends, held, node, &mut net);
+    let asked = prepare(t, table, offers, ends, kept, node, &mut net);
     effort(&net, asked, ends.count)
 }
 
@@ -111,13 +116,13 @@ pub fn pick(
     table: Table,
     offers: Offers,
     ends: Ends,
-    held: Held,
+    kept: [u8; Table::MOST_NODES],
     node: u8,
     out: &mut [u8],
 ) -> u64
-    requires { ⌜ (tableRead (now t) ≡ good table) × Full offers × EndsFull ends × HeldLengths held ⌝ }
-    ensures { λ r. ⌜ ((d : Board) → Stands (now (t .entry)) d offers ends (held .runs) (held .kept) → Leaves (PickOn d node) r (now (out .entry)) (now (out .exit))) ⌝ }
+    requires { ⌜ (tableRead (now t) ≡ good table) × Full offers × EndsFull ends × (length kept ≡ limits .mostNodes) ⌝ }
+    ensures { λ r. ⌜ ((d : Board) → Stands (now (t .entry)) d offers ends kept kept → Leaves (PickOn d node) r (now (out .entry)) (now (out .exit))) ⌝ }
 {
-    let found = choose(t, table, offers, ends, held, node);
+    let found = choose(t, table, offers, ends, kept, node);
     conclude(found, ends.count, node, out)
 }

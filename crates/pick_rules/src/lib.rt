@@ -12,7 +12,6 @@ ghost use Rattle.paper.specs.Answers.{good};
 ghost use Rattle.table.specs.Reading.{tableRead};
 ghost use Rattle.pick_bounds.specs.Net.{rule, obeys};
 ghost use Rattle.offers.specs.Struct.{Full};
-ghost use Rattle.marking_held.specs.MarkingHeld.{HeldLengths};
 ghost use Rattle.ends_masks.specs.Seating.{EndsFull, allowed};
 ghost use Rattle.choice_masks.specs.Masks.{Masks};
 ghost use Rattle.pick_rules.specs.Rules.{mostRules, netCells, holds, onEach, Starts, RulesAdded, AddedUpto, Roomy, BarredEnds};
@@ -21,7 +20,6 @@ ghost use Rattle.paper.specs.Limits.{limits};
 use choice_masks::fill_masks;
 use choice_masks::owned;
 use ends_masks::Ends;
-use marking_held::Held;
 use offers::MOST_ENDS;
 use offers::MOST_OFFERS;
 use offers::Offers;
@@ -426,16 +424,14 @@ pub fn add_destinations(
     t: &[u8],
     table: Table,
     ends: Ends,
-    held: Held,
+    kept: [u8; Table::MOST_NODES],
 ) -> usize
-    requires { ⌜ (count ≤ limits .mostOffers) × (netCells ≤ length (now net)) × (tableRead (now t) ≡ good table) × EndsFull ends × HeldLengths held ⌝ }
-    ensures { λ r. ⌜ RulesAdded (now (net .entry)) count (now (net .exit)) r 41 (ends .count) (destinationTests (now (t .entry)) (ends .edge) (ends .target) (ends .home) (held .runs) (held .kept) (ends .count)) ⌝ }
+    requires { ⌜ (count ≤ limits .mostOffers) × (netCells ≤ length (now net)) × (tableRead (now t) ≡ good table) × EndsFull ends × (length kept ≡ limits .mostNodes) ⌝ }
+    ensures { λ r. ⌜ RulesAdded (now (net .entry)) count (now (net .exit)) r 41 (ends .count) (destinationTests (now (t .entry)) (ends .edge) (ends .target) (ends .home) kept kept (ends .count)) ⌝ }
 {
     let edge = ends.edge;
     let target = ends.target;
     let home = ends.home;
-    let runs = held.runs;
-    let kept = held.kept;
     let n = ends.count;
     let mut by_edge = [0u32; Table::MOST_EDGES];
     let mut by_target = [0u32; Table::MOST_NODES];
@@ -465,7 +461,7 @@ pub fn add_destinations(
         &kept,
         n,
     );
-    let barred = barred(t, table, &by_edge, &by_target, &by_home, &runs);
+    let barred = barred(t, table, &by_edge, &by_target, &by_home, &kept);
     add(
         net,
         targets,
@@ -485,14 +481,14 @@ pub fn fill(
     table: Table,
     offers: Offers,
     ends: Ends,
-    held: Held,
+    kept: [u8; Table::MOST_NODES],
 ) -> usize
-    requires { ⌜ (netCells ≤ length (now net)) × (tableRead (now t) ≡ good table) × Full offers × EndsFull ends × HeldLengths held ⌝ }
-    ensures { λ r. ⌜ (r ≤ mostRules) × (Roomy (now (t .entry)) (held .kept) → (c : ℕ) → holds (now (net .exit)) r (ends .count) c ≡ allowed (now (t .entry)) offers ends (held .runs) (held .kept) c) ⌝ }
+    requires { ⌜ (netCells ≤ length (now net)) × (tableRead (now t) ≡ good table) × Full offers × EndsFull ends × (length kept ≡ limits .mostNodes) ⌝ }
+    ensures { λ r. ⌜ (r ≤ mostRules) × (Roomy (now (t .entry)) kept → (c : ℕ) → holds (now (net .exit)) r (ends .count) c ≡ allowed (now (t .entry)) offers ends kept kept c) ⌝ }
 {
     let foes = ends.foes;
     let makers = ends.makers;
     fill_rivals(net, &foes, &makers, ends.count);
     let forks = add_forks(net, 0, t, table, offers, ends);
-    add_destinations(net, forks, t, table, ends, held)
+    add_destinations(net, forks, t, table, ends, kept)
 }

@@ -41,7 +41,7 @@ plain-known : {A : Type 0} (k : ℕ) (o : Option A) → Plain (known (suc k) o)
 plain-known k none = plain-refused (suc k) 0 (omega arith) (omega arith)
 plain-known k (some a) = plain-good a
 
-plain-lowest : (k : ℕ) (f : ℕ → Bool) (m : ℕ) → m ≤ 64 → Plain (refuseIf (suc k) (lowest f m))
+plain-lowest : (k : ℕ) (f : ℕ → Bool) (m : ℕ) → m ≤ limits .mostEdges → Plain (refuseIf (suc k) (lowest f m))
 plain-lowest k f m l = by (lowest f m) refl
   where
     by : (o : Option ℕ) → lowest f m ≡ o → Plain (refuseIf (suc k) o)

@@ -12,7 +12,7 @@ use libc::STDIN_FILENO;
 use libc::STDOUT_FILENO;
 
 // So much is read at most (`mostInput`); no good input is longer.
-const MOST_INPUT: usize = 8192;
+const MOST_INPUT: usize = 16384;
 
 // A sheet is shorter, and so is a pick.
 const MOST_SHEET: usize = 4096;

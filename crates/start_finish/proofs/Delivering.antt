@@ -8,8 +8,7 @@ use Rattle.paper.specs.Lists.{oneIf}
 use Rattle.paper.specs.Answers.{refused, good}
 use Rattle.paper.specs.Marking.{Marking, encode}
 use Rattle.paper.specs.Operations.{packed, inRoom, Reply}
-use Rattle.marking_held.specs.declared.Held.{Held}
-use Rattle.marking_held.specs.MarkingHeld.{MarkingHeld}
+use Rattle.marking_held.specs.MarkingHeld.{Held, MarkingHeld}
 use Rattle.marking_give.specs.Giving.{giveOf}
 use Rattle.marking_give.proofs.GivingLaws.{give-state}
 use Rattle.start_finish.specs.Delivered.{Deliverable, delivered}

@@ -17,8 +17,7 @@ use Rattle.marking.specs.declared.reading.MarkingAnswer.{MarkingAnswer}
 use Rattle.marking.specs.declared.reading.MarkingAnswer.the-variants.{Ended, Refused}
 use Rattle.marking.specs.Reading.{MarkingRead}
 use Rattle.marking.specs.Values.{listedNodes}
-use Rattle.marking_held.specs.declared.Held.{Held}
-use Rattle.marking_held.specs.MarkingHeld.{LiveMarking}
+use Rattle.marking_held.specs.MarkingHeld.{Held, LiveMarking}
 use Rattle.marking_give.specs.Giving.{giveOf}
 use Rattle.marking_held.proofs.HeldLaws.{refused-up, ended-up}
 use Rattle.start_finish.specs.Delivered.{delivered}

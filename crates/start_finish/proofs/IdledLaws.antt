@@ -12,8 +12,7 @@ use Rattle.paper.specs.Operations.{idled, inRoom, Reply}
 use Rattle.paper.proofs.Bools.{and-true, either-way}
 use Rattle.paper.proofs.Bytes.{Bytes}
 use Rattle.paper.proofs.OneMarking.{good-elsewhere}
-use Rattle.marking_held.specs.declared.Held.{Held}
-use Rattle.marking_held.specs.MarkingHeld.{MarkingHeld, LiveMarking}
+use Rattle.marking_held.specs.MarkingHeld.{Held, MarkingHeld, LiveMarking}
 use Rattle.marking_held.proofs.HeldLaws.{live-is-good}
 use Rattle.start_finish.specs.Delivered.{Deliverable, delivered}
 

@@ -22,8 +22,11 @@ no-action t m a n = rw (ne-eqb (kind t a) 2 n) (by (ltb a (nodes t)) (m .runs a)
     by true d = refl
     by false d = refl
 
-pub running-node : (t : List ℕ) (m : Marking) (a : ℕ) → runsIn t m a ≡ true → a < nodes t
-running-node t m a h = ltb-true a (nodes t) (and-true (ltb a (nodes t)) _ (and-true (ltb a (nodes t) && isAction (kind t a)) _ h .0) .0)
+-- an action that runs is a node, and an action
+pub running-node : (t : List ℕ) (m : Marking) (a : ℕ) → runsIn t m a ≡ true → (a < nodes t) × (isAction (kind t a) ≡ true)
+running-node t m a h =
+    let both = and-true (ltb a (nodes t)) (isAction (kind t a)) (and-true (ltb a (nodes t) && isAction (kind t a)) _ h .0) in
+    (ltb-true a (nodes t) (both .0), both .1)
 
 -- the running byte says it
 pub runs-as : (t : List ℕ) (m : Marking) (a r : ℕ) → a < nodes t → kind t a ≡ 2 → r ≡ oneIf (m .runs a) → runsIn t m a ≡ eqb r 1

@@ -1,7 +1,7 @@
 -- What start answers on a table that was read: nothing is held, and what is delivered is the paper's. Assumes nothing.
 use mathlib.Core.Path.{_≡_, refl, sym, ap}
 use mathlib.Core.Bool.{Bool, true, false, _&&_}
-use mathlib.Core.List.{List, []}
+use mathlib.Core.List.{List}
 use Prim.Native.Nat.{ℕ, _<_}
 use lib.ListN.{length}
 use lib.Dec.{eqb}
@@ -19,8 +19,7 @@ use Rattle.table.specs.declared.Table.{Table}
 use Rattle.table.specs.Reading.{tableRead}
 use Rattle.table.proofs.Reading.{read-fine, read-good}
 use Rattle.marking.specs.Values.{isListed, listedNodes}
-use Rattle.marking_held.specs.declared.Held.{Held}
-use Rattle.marking_held.specs.MarkingHeld.{NothingHeld}
+use Rattle.marking_held.specs.MarkingHeld.{noNodes, noEdges, heldOf}
 use Rattle.marking_held.proofs.HeldLaws.{nothing-held}
 use Rattle.marking_give.specs.Giving.{giveOf}
 use Rattle.start_finish.specs.Delivered.{Deliverable, delivered}
@@ -44,24 +43,25 @@ module _ (t b : List ℕ) (x : Table) (e : tableRead t ≡ good x) where
   start-delivers = rw (read-fine t e, start-is)
 
   -- nothing is held, and incoming parameters are object nodes
-  pub start-ready : (y : Held) → NothingHeld y → Deliverable t 6 255 b y
-  start-ready y n = record {
+  pub start-ready : Deliverable t 6 255 b (heldOf noNodes noNodes noEdges)
+  start-ready = record {
     current = blank false;
     live = refl;
     givable = record {
-      held = nothing-held y n t b [] false;
+      held = nothing-held t b false;
       no-stock = λ i h. refl;
       no-count = λ e l h. refl;
       for-stocks = λ i h. ap isObjectNode (eqb-true (kind t i) 6 (and-true (eqb (kind t i) 6) _ h .0));
     };
   }
 
-  pub start-leaves : (y : Held) (n : NothingHeld y) (w : ℕ) (out after : List ℕ)
-      → ((d : Deliverable t 6 255 b y) → Reply (inRoom (length out) (delivered t 6 255 (λ i. eqb (kind t i) 1) (d .current) b)) w out after)
+  pub start-leaves : (w : ℕ) (out after : List ℕ)
+      → ((d : Deliverable t 6 255 b (heldOf noNodes noNodes noEdges))
+      → Reply (inRoom (length out) (delivered t 6 255 (λ i. eqb (kind t i) 1) (d .current) b)) w out after)
       → Leaves (Only (start t b)) w out after
   unfolding start-ready
-  start-leaves y n w out after h = record {
+  start-leaves w out after h = record {
     answer = delivered t 6 255 (λ i. eqb (kind t i) 1) (blank false) b;
     allowed = sym start-delivers;
-    reply = h (start-ready y n);
+    reply = h start-ready;
   }

@@ -5,7 +5,7 @@ use mathlib.Core.Bool.{Bool, false}
 use mathlib.Core.List.{List}
 use Rattle.paper.specs.Answers.{Answer, good, _>>=_}
 use Rattle.paper.specs.Marking.{Marking, encode}
-use Rattle.marking_held.specs.declared.Held.{Held}
+use Rattle.marking_held.specs.MarkingHeld.{Held}
 use Rattle.marking_give.specs.Giving.{giveOf, Givable}
 
 -- the marking after the lists of b are appended and the tokens handed out, as bytes

@@ -1,14 +1,13 @@
 // start and finish on a table that was read: the marking taken up, the action that ends, the lists of values appended, the tokens handed out and the
-// reply written. The marking is held by value (`Deliverable`, `LiveMarking`).
+// reply written. What was read of the marking stands in columns, which are lent (`Deliverable`, `LiveMarking`).
 use marking::MarkingAnswer;
 use marking::ValuesAnswer;
 use marking_give::Firing;
 use marking_give::Listing;
-use marking_held::Held;
 use table::Table;
 ghost use mathlib.Core.Path.{_≡_};
 ghost use mathlib.Core.Bool.{true};
-ghost use Prim.Native.Nat.{ℕ, _<_};
+ghost use Prim.Native.Nat.{ℕ, _≤_, _<_};
 ghost use lib.Dec.{eqb};
 ghost use lib.ListN.{length};
 ghost use Rattle.paper.specs.Lists.{at, oneIf};
@@ -17,7 +16,7 @@ ghost use Rattle.paper.specs.Table.{nodes, kind, isAction};
 ghost use Rattle.paper.specs.Marking.{Marking};
 ghost use Rattle.paper.specs.Operations.{Leaves, Only, Reply, inRoom, idled, start as started, finish as finished};
 ghost use Rattle.table.specs.Reading.{Spans, tableRead};
-ghost use Rattle.marking_held.specs.MarkingHeld.{HeldLengths, LiveMarking};
+ghost use Rattle.marking_held.specs.MarkingHeld.{HeldLengths, LiveMarking, heldOf};
 ghost use Rattle.marking_give.specs.Giving.{firesAs};
 ghost use Rattle.start_finish.specs.Delivered.{Deliverable, delivered};
 ghost use Rattle.start_finish.specs.Running.{said, runsIn};
@@ -30,12 +29,18 @@ fn deliver(
     values: &[u8],
     old: &[u8],
     firing: Firing,
-    held: Held,
+    from: &[u16],
+    kept: &[u8],
+    tokens: &mut [u8],
     out: &mut [u8],
 ) -> u64
-    requires { ⌜ (tableRead (now t) ≡ good table) × HeldLengths held × Deliverable (now t) (listing .kind) (listing .owner) (now old) held ⌝ }
-    ensures { λ r. ⌜ ((d : Deliverable (now (t .entry)) (listing .kind) (listing .owner) (now (old .entry)) held)
-        → Reply (inRoom (length (now (out .entry))) (delivered (now (t .entry)) (listing .kind) (listing .owner) (firesAs (now (t .entry)) firing) (d .current) (now (values .entry)))) r (now (out .entry)) (now (out .exit))) ⌝ }
+    requires { ⌜ (tableRead (now t) ≡ good table) × HeldLengths (heldOf (now from) (now kept) (now tokens))
+        × Deliverable (now t) (listing .kind) (listing .owner) (now old) (heldOf (now from) (now kept) (now tokens)) ⌝ }
+    ensures { λ r. ⌜ ((d : Deliverable (now (t .entry)) (listing .kind) (listing .owner) (now (old .entry))
+        (heldOf (now (from .entry)) (now (kept .entry)) (now (tokens .entry))))
+        → Reply (inRoom (length (now (out .entry)))
+        (delivered (now (t .entry)) (listing .kind) (listing .owner) (firesAs (now (t .entry)) firing) (d .current) (now (values .entry))))
+        r (now (out .entry)) (now (out .exit))) ⌝ }
 {
     let mut place = [0u16; Table::MOST_NODES];
     let mut more = [0u8; Table::MOST_NODES];
@@ -50,25 +55,26 @@ fn deliver(
     ) {
         return wire::pack(number, at, 0);
     }
-    let kept = held.kept;
-    if !marking_give::stocks_fit(t, table, &kept, &more) {
+    if !marking_give::stocks_fit(t, table, kept, &more) {
         return wire::pack(16, 0, 0);
     }
-    let mut tokens = held.tokens;
-    if !marking_give::gain(t, table, firing, &mut tokens) {
+    if !marking_give::gain(t, table, firing, tokens) {
         return wire::pack(16, 0, 0);
     }
-    let from = held.from;
-    let runs = held.runs;
-    let given = Held {
-        from: from,
-        kept: kept,
-        place: place,
-        more: more,
-        runs: runs,
-        tokens: tokens,
-    };
-    marking_write::reply(t, table, 0, old, values, given, out)
+    marking_write::reply(
+        t,
+        table,
+        0,
+        old,
+        values,
+        from,
+        kept,
+        &place,
+        &more,
+        kept,
+        tokens,
+        out,
+    )
 }
 
 // What asking for a running action answers: nothing but that it runs, or the refusal's number and its place.
@@ -78,10 +84,10 @@ enum RunningAnswer {
 }
 
 // Whether node a is a running action (row 14).
-fn running(t: &[u8], table: Table, held: Held, a: usize) -> RunningAnswer
-    requires { ⌜ Spans (now t) table ⌝ }
+fn running(t: &[u8], table: Table, kept: &[u8], a: usize) -> RunningAnswer
+    requires { ⌜ Spans (now t) table × (table .nodes ≤ length (now kept)) ⌝ }
     ensures { λ r. ⌜ ((m : Marking) → ((i : ℕ) → i < nodes (now (t .entry)) → isAction (kind (now (t .entry)) i) ≡ true
-        → at (held .runs) i ≡ oneIf (m .runs i)) → said r ≡ need 14 (runsIn (now (t .entry)) m a)) ⌝ }
+        → at (now (kept .entry)) i ≡ oneIf (m .runs i)) → said r ≡ need 14 (runsIn (now (t .entry)) m a)) ⌝ }
 {
     if a >= table.nodes {
         return RunningAnswer::Refused(14, 0);
@@ -89,7 +95,7 @@ fn running(t: &[u8], table: Table, held: Held, a: usize) -> RunningAnswer
     if table.kind(t, a) != Table::ACTION {
         return RunningAnswer::Refused(14, 0);
     }
-    if held.runs[a] != 1 {
+    if kept[a] != 1 {
         return RunningAnswer::Refused(14, 0);
     }
     RunningAnswer::Good
@@ -102,19 +108,35 @@ fn conclude(
     b: &[u8],
     a: usize,
     values: &[u8],
-    held: Held,
+    from: &[u16],
+    kept: &mut [u8],
+    tokens: &mut [u8],
     out: &mut [u8],
 ) -> u64
-    requires { ⌜ (tableRead (now t) ≡ good table) × (a < table .nodes) × LiveMarking (now t) (now b) held ⌝ }
-    ensures { λ r. ⌜ ((l : LiveMarking (now (t .entry)) (now (b .entry)) held)
-        → Reply (inRoom (length (now (out .entry))) (delivered (now (t .entry)) 4 a (λ i. eqb i a) (idled (now (t .entry)) a (l .current)) (now (values .entry)))) r (now (out .entry)) (now (out .exit))) ⌝ }
+    requires { ⌜ (tableRead (now t) ≡ good table) × (a < table .nodes) × (isAction (kind (now t) a) ≡ true)
+        × LiveMarking (now t) (now b) (heldOf (now from) (now kept) (now tokens)) ⌝ }
+    ensures { λ r. ⌜ ((l : LiveMarking (now (t .entry)) (now (b .entry)) (heldOf (now (from .entry)) (now (kept .entry)) (now (tokens .entry))))
+        → Reply (inRoom (length (now (out .entry)))
+        (delivered (now (t .entry)) 4 a (λ i. eqb i a) (idled (now (t .entry)) a (l .current)) (now (values .entry))))
+        r (now (out .entry)) (now (out .exit))) ⌝ }
 {
-    let idled = marking_held::idle(t, table, a, held);
+    marking_held::idle(t, table, a, kept);
     let listing = Listing {
         kind: Table::OUTPUT,
         owner: a,
     };
-    deliver(t, table, listing, values, b, Firing::Node(a), idled, out)
+    deliver(
+        t,
+        table,
+        listing,
+        values,
+        b,
+        Firing::Node(a),
+        from,
+        kept,
+        tokens,
+        out,
+    )
 }
 
 // start on a table that was read.
@@ -127,8 +149,21 @@ pub fn start(t: &[u8], table: Table, values: &[u8], out: &mut [u8]) -> u64
         owner: Table::NO_OWNER,
     };
     let firing = Firing::Kind(Table::INITIAL);
-    let held = marking_held::nothing();
-    deliver(t, table, listing, values, values, firing, held, out)
+    let from = [0u16; Table::MOST_NODES];
+    let kept = [0u8; Table::MOST_NODES];
+    let mut tokens = [0u8; Table::MOST_EDGES];
+    deliver(
+        t,
+        table,
+        listing,
+        values,
+        values,
+        firing,
+        &from,
+        &kept,
+        &mut tokens,
+        out,
+    )
 }
 
 // finish on a table that was read.
@@ -145,9 +180,8 @@ pub fn finish(t: &[u8], table: Table, b: &[u8], action: u8, values: &[u8], out: 
         MarkingAnswer::Refused(number, place) => return wire::pack(number, place, 0),
     }
     let a = wire::wide(action);
-    let held = marking_held::take_up(from, kept, tokens);
-    if let RunningAnswer::Refused(number, place) = running(t, table, held, a) {
+    if let RunningAnswer::Refused(number, place) = running(t, table, &kept, a) {
         return wire::pack(number, place, 0);
     }
-    conclude(t, table, b, a, values, held, out)
+    conclude(t, table, b, a, values, &from, &mut kept, &mut tokens, out)
 }

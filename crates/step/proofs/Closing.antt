@@ -1,6 +1,6 @@
 -- Whether a step ends the marking, and what it leaves then: the paper's next marking. Assumes nothing.
-use mathlib.Core.Path.{_≡_, sym, ap, _∙_}
-use mathlib.Core.Bool.{true, false}
+use mathlib.Core.Path.{_≡_, refl, sym, ap, _∙_}
+use mathlib.Core.Bool.{Bool, true, false, cond}
 use mathlib.Core.List.{List}
 use Prim.Native.Nat.{ℕ, _<_}
 use native.Mathlib.Omega.{arith}
@@ -18,9 +18,9 @@ use Rattle.ends_masks.specs.declared.Ends.{Ends}
 use Rattle.ends_masks.specs.Seating.{Stands}
 use Rattle.ends_masks.proofs.Taking.{any-ends}
 use Rattle.ends_masks.proofs.Rules.{target-row}
-use Rattle.marking_held.specs.declared.Held.{Held}
-use Rattle.marking_held.specs.MarkingHeld.{MarkingHeld}
-use Rattle.step_close.specs.Closing.{closes}
+use Rattle.marking_held.specs.MarkingHeld.{MarkingHeld, heldIn}
+use Rattle.step_close.specs.Closing.{closes, Closed}
+use Rattle.step_close.proofs.Clearing.{closed-held}
 
 module _ {t : List ℕ} {d : Board} {o : Offers} {e : Ends} {runs stock : List ℕ} (s : Stands t d o e runs stock) where
   -- the targets of its ends are nodes
@@ -39,26 +39,23 @@ module _ {t : List ℕ} {d : Board} {o : Offers} {e : Ends} {runs stock : List �
         (λ k l. ap (λ i. isActivityFinal (kind (d .table) i)) (target-row t d o (s .beside) (s .trees) e c z k l)
         ∙ ap (λ (u : List ℕ). isActivityFinal (kind u (at (e .target) k))) (z .table-is))
 
-    next-open : closes t (e .target) (e .count) c ≡ false → next d c ≡ gain d c (spend d c (d .current))
+    next-is : next d c ≡ cond (closes t (e .target) (e .count) c) (endedOf t (gain d c (spend d c (d .current)))) (gain d c (spend d c (d .current)))
     unfolding next close
-    next-open q = rw (closing-is ∙ q)
+    next-is =
+        let m = gain d c (spend d c (d .current)) in
+        rw closing-is (ap (λ (u : List ℕ). cond (closes t (e .target) (e .count) c) (endedOf u m) m) (s .seated .table-is))
 
-    next-closed : closes t (e .target) (e .count) c ≡ true → next d c ≡ endedOf t (gain d c (spend d c (d .current)))
-    unfolding next close
-    next-closed q = rw (closing-is ∙ q) (ap (λ (u : List ℕ). endedOf u (gain d c (spend d c (d .current)))) (s .seated .table-is))
+    -- what is held once the marking has ended or not, and the state that is written
+    pub next-held : {kept more rs tokens kept′ more′ rs′ tokens′ : List ℕ}
+        → Closed t (closes t (e .target) (e .count) c) kept more rs tokens kept′ more′ rs′ tokens′
+        → {b extra f q : List ℕ} → MarkingHeld t (gain d c (spend d c (d .current))) b extra (heldIn f kept q more rs tokens)
+        → MarkingHeld t (next d c) b extra (heldIn f kept′ q more′ rs′ tokens′)
+    next-held z h = rw next-is (closed-held (closes t (e .target) (e .count) c) z h)
 
-    pub open-state : d .current .ended ≡ false → closes t (e .target) (e .count) c ≡ false → 0 ≡ oneIf (next d c .ended)
-    unfolding gain spend
-    open-state live q = sym (rw (next-open q, live))
-
-    pub closed-state : closes t (e .target) (e .count) c ≡ true → 1 ≡ oneIf (next d c .ended)
-    unfolding endedOf
-    closed-state q = sym (rw (next-closed q))
-
-    pub open-held : closes t (e .target) (e .count) c ≡ false → {b extra : List ℕ} {x : Held}
-        → MarkingHeld t (gain d c (spend d c (d .current))) b extra x → MarkingHeld t (next d c) b extra x
-    open-held q h = rw (next-open q) h
-
-    pub closed-held : closes t (e .target) (e .count) c ≡ true → {b extra : List ℕ} {x : Held}
-        → MarkingHeld t (endedOf t (gain d c (spend d c (d .current)))) b extra x → MarkingHeld t (next d c) b extra x
-    closed-held q h = rw (next-closed q) h
+    pub next-state : d .current .ended ≡ false → oneIf (closes t (e .target) (e .count) c) ≡ oneIf (next d c .ended)
+    unfolding gain spend endedOf
+    next-state live = rw next-is (by (closes t (e .target) (e .count) c))
+      where
+        by : (b : Bool) → oneIf b ≡ oneIf (cond b (endedOf t (gain d c (spend d c (d .current)))) (gain d c (spend d c (d .current))) .ended)
+        by true = refl
+        by false = sym (ap oneIf live)

@@ -18,7 +18,7 @@ use Rattle.choice_judge.specs.Judging.{said, rowRules}
 use Rattle.choice_judge.proofs.Meaning.{judged-rows}
 use Rattle.choice.specs.Choice.{choiceRead}
 use Rattle.choice.proofs.Laws.{refused-is, good-is, choice-is}
-use Rattle.marking_held.specs.declared.Held.{Held}
+use Rattle.marking_held.specs.MarkingHeld.{Held}
 use Rattle.step.specs.Stepping.{settled, chosen, Standing}
 
 -- ---- row 9, and the choice

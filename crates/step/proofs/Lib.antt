@@ -1,3 +1,5 @@
--- Laws of a step, row by row, and of its end.
+-- Laws of a step, row by row, of its stages, and of its end.
 pub mod Laws
+pub mod Calling
+pub mod Moving
 pub mod Closing

@@ -4,6 +4,7 @@ use mathlib.Core.Path.{_≡_}
 use mathlib.Core.Bool.{false}
 use mathlib.Core.List.{List, []}
 use lib.ListN.{length}
+use Rattle.paper.specs.Limits.{limits}
 use Rattle.paper.specs.Answers.{Answer, good, _>>=_, judgedBy}
 use Rattle.paper.specs.Marking.{encode}
 use Rattle.paper.specs.Choices.{Board, rules, next}
@@ -11,8 +12,7 @@ use Rattle.paper.specs.Operations.{stepOf}
 use Rattle.offers.specs.declared.Offers.{Offers}
 use Rattle.ends_masks.specs.declared.Ends.{Ends}
 use Rattle.ends_masks.specs.Seating.{Stands}
-use Rattle.marking_held.specs.declared.Held.{Held}
-use Rattle.marking_held.specs.MarkingHeld.{MarkingHeld}
+use Rattle.marking_held.specs.MarkingHeld.{Held, MarkingHeld}
 
 -- rows 10 to 12, and the marking after the choice c
 unfoldable pub settled : List ℕ → Board → ℕ → Answer (List ℕ)
@@ -31,5 +31,5 @@ pub record Standing (t b : List ℕ) (o : Offers) (e : Ends) (x : Held) : Type 0
   pub on : Board
   pub stands : Stands t on o e (x .runs) (x .kept)
   pub live : on .current .ended ≡ false
-  pub short : length b ≤ 4096
+  pub short : length b ≤ limits .longestMarking
   pub held-as : MarkingHeld t (on .current) b [] x

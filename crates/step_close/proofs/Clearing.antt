@@ -1,57 +1,52 @@
 -- A marking that is held, ended: what is kept and what comes of outgoing parameters alone. Assumes nothing.
-use mathlib.Core.Path.{_≡_, refl, sym, ap, subst, _∙_}
+use mathlib.Core.Path.{_≡_, refl, sym, _∙_}
 use Prim.Native.Nat.{ℕ, _+_, _<_}
 use native.Mathlib.Omega.{arith}
 use mathlib.Core.Bool.{Bool, true, false, cond}
 use mathlib.Core.List.{List, []}
-use lib.ListN.{length, set, replicate}
+use lib.ListN.{length, set}
 use borrow.Author.Tests.{ne-eqb, eq-eqb}
 use Rattle.paper.specs.Lists.{at}
-use Rattle.paper.specs.Limits.{limits}
-use Rattle.paper.specs.Table.{nodes, kind, isOutgoing}
+use Rattle.paper.specs.Table.{nodes, edges, kind, isOutgoing}
 use Rattle.paper.specs.Marking.{Marking, endedOf}
-use Rattle.table.proofs.Reading.{blank}
-use Rattle.marking_held.specs.declared.Held.{Held}
 use Rattle.marking_held.specs.Filling.{Filled}
-use Rattle.marking_held.specs.MarkingHeld.{StockHeld, HeldLengths, MarkingHeld}
+use Rattle.marking_held.specs.MarkingHeld.{StockHeld, MarkingHeld, heldIn}
 use Rattle.marking_held.proofs.Fillings.{filled-none, filled-set, filled-skip}
+use Rattle.step_close.specs.Closing.{Emptied, Closed}
 
--- x with other numbers of values
-abbrev pub numbered : Held → List ℕ → List ℕ → Held
-numbered x kept more = record { from = x .from; kept = kept; place = x .place; more = more; runs = x .runs; tokens = x .tokens }
-
--- of the nodes below n outgoing parameters alone keep their number
-abbrev OutgoingKept : List ℕ → List ℕ → List ℕ → ℕ → Type 0
-OutgoingKept t old new n = Filled (λ i. cond (isOutgoing (kind t i)) (at old i) 0) old new n
-
--- y is x with the nodes below n empty but for outgoing parameters
-pub record Emptied (t : List ℕ) (x y : Held) (n : ℕ) : Type 0 where
-  pub others : y ≡ numbered x (y .kept) (y .more)
-  pub kepts : OutgoingKept t (x .kept) (y .kept) n
-  pub mores : OutgoingKept t (x .more) (y .more) n
-
-pub emptied-none : (t : List ℕ) (x : Held) → Emptied t x x 0
-emptied-none t x = record {
-  others = refl;
-  kepts = filled-none (λ i. cond (isOutgoing (kind t i)) (at (x .kept) i) 0) (x .kept);
-  mores = filled-none (λ i. cond (isOutgoing (kind t i)) (at (x .more) i) 0) (x .more);
+-- ---- one node after the other
+pub emptied-none : (t kept more runs : List ℕ) → Emptied t kept more runs kept more runs 0
+emptied-none t kept more runs = record {
+  kepts = filled-none (λ i. cond (isOutgoing (kind t i)) (at kept i) 0) kept;
+  mores = filled-none (λ i. cond (isOutgoing (kind t i)) (at more i) 0) more;
+  still = filled-none (λ i. 0) runs;
 }
 
-module _ {t : List ℕ} {x y : Held} {i k : ℕ} (h : Emptied t x y i) (e : k ≡ kind t i) where
-  pub emptied-more : (k ≡ 7 → ⊥) → i < length (y .kept) → i < length (y .more)
-      → Emptied t x (numbered y (set (y .kept) i 0) (set (y .more) i 0)) (i + 1)
+module _ {t kept more runs kept′ more′ runs′ : List ℕ} {i k : ℕ} (h : Emptied t kept more runs kept′ more′ runs′ i) (l : i < length runs′)
+    (e : k ≡ kind t i) where
+  pub emptied-more : (k ≡ 7 → ⊥) → i < length kept′ → i < length more′ → Emptied t kept more runs (set kept′ i 0) (set more′ i 0) (set runs′ i 0) (i + 1)
   emptied-more q lk lm =
       let z = ne-eqb (kind t i) 7 (λ z. q (e ∙ z)) in
-      record {
-        others = ap (λ (z : Held). numbered z (set (y .kept) i 0) (set (y .more) i 0)) (h .others);
-        kepts = filled-set (h .kepts) 0 lk (sym (rw z));
-        mores = filled-set (h .mores) 0 lm (sym (rw z));
-      }
+      record { kepts = filled-set (h .kepts) 0 lk (sym (rw z)); mores = filled-set (h .mores) 0 lm (sym (rw z)); still = filled-set (h .still) 0 l refl }
 
-  pub emptied-left : k ≡ 7 → Emptied t x y (i + 1)
+  pub emptied-left : k ≡ 7 → Emptied t kept more runs kept′ more′ (set runs′ i 0) (i + 1)
   emptied-left q =
       let z = eq-eqb (kind t i) 7 (sym e ∙ q) in
-      record { others = h .others; kepts = filled-skip (h .kepts) (sym (rw z)); mores = filled-skip (h .mores) (sym (rw z)) }
+      record { kepts = filled-skip (h .kepts) (sym (rw z)); mores = filled-skip (h .mores) (sym (rw z)); still = filled-set (h .still) 0 l refl }
+
+-- ---- all of it, or nothing
+module _ {t kept more runs tokens : List ℕ} {b : Bool} where
+  pub closed-not : b ≡ false → Closed t b kept more runs tokens kept more runs tokens
+  closed-not e = rw e (record { kepts = λ i l. refl; mores = λ i l. refl; still = λ i l. refl; counts = λ j l. refl })
+
+  pub closed-all : {kept′ more′ runs′ tokens′ : List ℕ} {n k : ℕ} → b ≡ true → Emptied t kept more runs kept′ more′ runs′ n → n ≡ nodes t
+      → Filled (λ j. 0) tokens tokens′ k → k ≡ edges t → Closed t b kept more runs tokens kept′ more′ runs′ tokens′
+  closed-all e h en f ek = rw e (record {
+    kepts = λ i l. h .kepts .done i (omega arith);
+    mores = λ i l. h .mores .done i (omega arith);
+    still = λ i l. h .still .done i (omega arith);
+    counts = λ j l. f .done j (omega arith);
+  })
 
 stock-cleared : (b : Bool) (vs old extra : List ℕ) (f k p n : ℕ) → StockHeld vs old extra f k p n
     → StockHeld (cond b vs []) old extra f (cond b k 0) p (cond b n 0)
@@ -60,35 +55,19 @@ stock-cleared false vs old extra f k p n v =
     let s = v .inside in
     record { many = refl; stand = refl; inside = record { few = omega arith; in-old = omega (arith, s .in-old); in-extra = omega (arith, s .in-extra) } }
 
--- x with every action idle and every count 0
-abbrev pub stilled : Held → Held
-stilled x = record {
-  from = x .from;
-  kept = x .kept;
-  place = x .place;
-  more = x .more;
-  runs = replicate (limits .mostNodes) 0;
-  tokens = replicate (limits .mostEdges) 0;
+pub closed-held : (b : Bool) {t kept more runs tokens kept′ more′ runs′ tokens′ : List ℕ} → Closed t b kept more runs tokens kept′ more′ runs′ tokens′
+    → {m : Marking} {old extra f q : List ℕ} → MarkingHeld t m old extra (heldIn f kept q more runs tokens)
+    → MarkingHeld t (cond b (endedOf t m) m) old extra (heldIn f kept′ q more′ runs′ tokens′)
+unfolding endedOf
+closed-held true {t} {kept} {more} h {m} {old} {extra} {f} {q} v = record {
+  stocks = λ i l o.
+      rw (h .kepts i l, h .mores i l)
+      (stock-cleared (isOutgoing (kind t i)) (m .stock i) old extra (at f i) (at kept i) (at q i) (at more i) (v .stocks i l o));
+  running = λ i l a. h .still i l;
+  counts = λ j l c. h .counts j l;
 }
-
-module _ (t : List ℕ) (x : Held) {y : Held} {n : ℕ} (h : Emptied t (stilled x) y n) where
-  pub cleared-lengths : HeldLengths x → HeldLengths y
-  cleared-lengths l = subst HeldLengths (sym (h .others)) (record {
-    from-long = l .from-long;
-    kept-long = h .kepts .long ∙ l .kept-long;
-    place-long = l .place-long;
-    more-long = h .mores .long ∙ l .more-long;
-    runs-long = refl;
-    tokens-long = refl;
-  })
-
-  pub cleared-held : n ≡ nodes t → (m : Marking) (old extra : List ℕ) → MarkingHeld t m old extra x → MarkingHeld t (endedOf t m) old extra y
-  unfolding endedOf
-  cleared-held q m old extra v = subst (λ (z : Held). MarkingHeld t (endedOf t m) old extra z) (sym (h .others)) (record {
-    stocks = λ i l o.
-        let z : i < n = omega arith in
-        rw (h .kepts .done i z, h .mores .done i z)
-        (stock-cleared (isOutgoing (kind t i)) (m .stock i) old extra (at (x .from) i) (at (x .kept) i) (at (x .place) i) (at (x .more) i) (v .stocks i l o));
-    running = λ i l a. blank (limits .mostNodes) i;
-    counts = λ j l c. blank (limits .mostEdges) j;
-  })
+closed-held false h v = record {
+  stocks = λ i l o. rw (h .kepts i l, h .mores i l) (v .stocks i l o);
+  running = λ i l a. h .still i l ∙ v .running i l a;
+  counts = λ j l c. h .counts j l ∙ v .counts j l c;
+}

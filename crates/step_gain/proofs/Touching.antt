@@ -14,8 +14,8 @@ use Rattle.paper.proofs.Bools.{never}
 use Rattle.words.specs.Marks.{MarksOf, isMarked, placed}
 use Rattle.words.proofs.Marks.{mark-test}
 use Rattle.ends_masks.specs.Seating.{served}
-use Rattle.marking_held.specs.Filling.{Filled}
-use Rattle.step_gain.specs.Gains.{brought, coming, starts}
+use Rattle.marking_held.proofs.Fillings.{filled-as}
+use Rattle.step_gain.specs.Gains.{brought, coming, starts, Started}
 
 -- ---- nodes to which no end of the word goes
 module _ (target row value : List ℕ) (w i : ℕ) where
@@ -63,11 +63,9 @@ touched-served target home n c i = either (below n)
         (any (λ k. has c k && (eqb (at target k) i || eqb (at home k) i)) ks) (either ks)
 
 -- what was done by the marks was done where an action starts
-pub started-marked : (t target home : List ℕ) (n c : ℕ) {marks : List ℕ} {most k : ℕ} (old new : List ℕ) → MarksOf (served target home n c) most marks → k ≤ most
-    → Filled (λ i. cond (isAction (kind t i) && isMarked marks i) 1 (at old i)) old new k → Filled (λ i. cond (starts t target home n c i) 1 (at old i)) old new k
+pub started-marked : (t target home : List ℕ) (n c : ℕ) {marks old new : List ℕ} {most k : ℕ} → MarksOf (served target home n c) most marks → k ≤ most
+    → Started (λ i. isAction (kind t i) && isMarked marks i) old new k → Started (starts t target home n c) old new k
 unfolding starts
-started-marked t target home n c old new m l f = record {
-  done = λ i z. f .done i z ∙ ap (λ (b : Bool). cond (isAction (kind t i) && b) 1 (at old i)) (mark-test m i (omega arith));
-  rest = f .rest;
-  long = f .long;
-}
+started-marked t target home n c {old = old} m l f =
+    filled-as f (λ i. cond (starts t target home n c i) 1 (at old i))
+    (λ i z. ap (λ (b : Bool). cond (isAction (kind t i) && b) 1 (at old i)) (mark-test m i (omega arith)))

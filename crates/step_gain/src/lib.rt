@@ -1,14 +1,11 @@
 // "Then destinations gain, in end order: values append to pins, buffers and parameters, and actions run. Finals drop what arrives."
 // The values that come to a node stand one behind another in a slice of their own. A final has no stock, so nobody looks at what came to it.
-// The nodes at which something is taken are marked first, and only they are asked. What is held is taken by value and changed in place; loops take the columns
-// of the ends as lent slices.
+// The nodes at which something is taken are marked first, and only they are asked. The columns of the ends are lent, and those of the marking that are changed.
 use ends_masks::Ends;
-use marking_held::Held;
 use offers::MOST_ENDS;
 use table::Table;
 ghost use mathlib.Core.Path.{_≡_};
 ghost use mathlib.Core.Bool.{Bool, not, _&&_, _||_, cond};
-ghost use mathlib.Core.List.{List, []};
 ghost use Prim.Native.Nat.{ℕ, _+_, _*_, _≤_, _<_};
 ghost use lib.Dec.{eqb};
 ghost use lib.ListN.{length};
@@ -17,13 +14,11 @@ ghost use Rattle.paper.specs.Lists.{at, has, gather};
 ghost use Rattle.paper.specs.Bytes.{four};
 ghost use Rattle.paper.specs.Limits.{limits};
 ghost use Rattle.paper.specs.Table.{isAction};
-ghost use Rattle.paper.specs.Marking.{Marking};
 ghost use Rattle.words.specs.Marks.{MarksOf, placed};
 ghost use Rattle.table.specs.Reading.{Spans};
 ghost use Rattle.offers.specs.Sets.{Marks};
 ghost use Rattle.ends_masks.specs.Seating.{Rowed, EndsFull, served};
-ghost use Rattle.marking_held.specs.MarkingHeld.{HeldLengths, MarkingHeld};
-ghost use Rattle.step_gain.specs.Gains.{goesTo, brought, coming, gainedBy, starts, startedBy};
+ghost use Rattle.step_gain.specs.Gains.{goesTo, brought, coming, Came, starts, Started};
 
 // Room for the values of all ends.
 pub const ROOM: usize = 4 * MOST_ENDS;
@@ -90,9 +85,9 @@ fn gain_end(
 }
 
 // The values that come to node i, from a place on; and how many they are.
-fn gain_node(
-    target: &[u8],
-    row: &[u8],
+fn gain_node<'a>(
+    target: &'a [u8],
+    row: &'a [u8],
     value: &[u32],
     w: u32,
     n: usize,
@@ -124,44 +119,43 @@ fn mark_column(column: &[u8], n: usize, c: u32, marks: &mut [u8])
     }
 }
 
-// What is held after the values of the ends of the word w came, which are stored in `extra`. Nothing came before.
+// The values of the ends of the word w come: they are stored in `extra`, and of each node their place and their number is noted.
 pub fn gain(
     table: Table,
     ends: Ends,
     value: &[u32],
     w: u32,
     extra: &mut [u8],
-    mut held: Held,
-) -> Held
-    requires { ⌜ (table .nodes ≤ limits .mostNodes) × EndsFull ends × Rowed (ends .row) (ends .count) (length (now value)) × (4 * limits .mostEnds ≤ length (now extra)) × HeldLengths held ⌝ }
-    ensures { λ r. ⌜ HeldLengths r × ((t : List ℕ) (m : Marking) (old : List ℕ) → Spans t table → ((i : ℕ) → i < table .nodes → length (m .stock i) ≤ limits .mostUpper)
-        → MarkingHeld t m old [] held → MarkingHeld t (gainedBy (coming (ends .target) (ends .row) (now (value .entry)) w (ends .count)) m) old (now (extra .exit)) r) ⌝ }
+    place: &mut [u16],
+    more: &mut [u8],
+)
+    requires { ⌜ (table .nodes ≤ limits .mostNodes) × EndsFull ends × Rowed (ends .row) (ends .count) (length (now value))
+        × (4 * limits .mostEnds ≤ length (now extra)) × (table .nodes ≤ length (now place)) × (table .nodes ≤ length (now more)) ⌝ }
+    ensures { λ _. ⌜ Came (coming (ends .target) (ends .row) (now (value .entry)) w (ends .count)) (now (extra .exit)) (now (place .exit)) (now (more .exit))
+        (table .nodes) ⌝ }
 {
-    let target = ends.target;
-    let row = ends.row;
     let n = ends.count;
     let nodes = table.nodes;
     let mut reached = [0u8; Table::MOST_NODES];
-    mark_column(&target, n, w, &mut reached);
+    mark_column(&ends.target, n, w, &mut reached);
     let mut to: usize = 0;
     let mut i: usize = 0;
     while i < nodes {
         let mut many: usize = 0;
         if reached[i] != 0 {
-            many = gain_node(&target, &row, value, w, n, i, extra, to);
+            many = gain_node(&ends.target, &ends.row, value, w, n, i, extra, to);
         }
-        held.place[i] = to as u16;
-        held.more[i] = many as u8;
+        place[i] = to as u16;
+        more[i] = many as u8;
         to += 4 * many;
         i += 1;
     }
-    held
 }
 
 // ---- the actions that start
 
 // The nodes to which a taken end belongs, marked.
-fn touched_nodes(target: &[u8], home: &[u8], n: usize, c: u32) -> [u8; Table::MOST_NODES]
+fn touched_nodes<'a>(target: &'a [u8], home: &'a [u8], n: usize, c: u32) -> [u8; Table::MOST_NODES]
     requires { ⌜ (n ≤ length (now target)) × (n ≤ length (now home)) × (n ≤ limits .mostEnds) ⌝ }
     ensures { λ r. ⌜ MarksOf (served (now (target .entry)) (now (home .entry)) n c) (limits .mostNodes) r ⌝ }
 {
@@ -184,20 +178,16 @@ fn runs_then(k: usize, touched: u8, runs: u8) -> u8
     1
 }
 
-// What is held after the actions started to which a taken end belongs.
-pub fn run(t: &[u8], table: Table, ends: Ends, c: u32, mut held: Held) -> Held
-    requires { ⌜ Spans (now t) table × EndsFull ends × HeldLengths held ⌝ }
-    ensures { λ r. ⌜ HeldLengths r × ((m : Marking) (old extra : List ℕ) → MarkingHeld (now (t .entry)) m old extra held
-        → MarkingHeld (now (t .entry)) (startedBy (starts (now (t .entry)) (ends .target) (ends .home) (ends .count) c) m) old extra r) ⌝ }
+// The actions start to which a taken end belongs.
+pub fn run(t: &[u8], table: Table, ends: Ends, c: u32, runs: &mut [u8])
+    requires { ⌜ Spans (now t) table × EndsFull ends × (table .nodes ≤ length (now runs)) ⌝ }
+    ensures { λ _. ⌜ Started (starts (now (t .entry)) (ends .target) (ends .home) (ends .count) c) (now (runs .entry)) (now (runs .exit)) (table .nodes) ⌝ }
 {
-    let target = ends.target;
-    let home = ends.home;
-    let touched = touched_nodes(&target, &home, ends.count, c);
+    let touched = touched_nodes(&ends.target, &ends.home, ends.count, c);
     let n = table.nodes;
     let mut i: usize = 0;
     while i < n {
-        held.runs[i] = runs_then(table.kind(t, i), touched[i], held.runs[i]);
+        runs[i] = runs_then(table.kind(t, i), touched[i], runs[i]);
         i += 1;
     }
-    held
 }

@@ -1,5 +1,5 @@
 -- A marking that is held, with edges spent: counts go to 0, and the oldest value of a stock goes. Assumes nothing.
-use mathlib.Core.Path.{_≡_, refl, sym, ap, subst, _∙_}
+use mathlib.Core.Path.{_≡_, sym, ap, _∙_}
 use Prim.Native.Nat.{ℕ, _+_, _-_, _*_, _≤_, _<_}
 use native.Mathlib.Omega.{arith}
 use mathlib.Core.Bool.{Bool, true, false, not, _&&_, cond}
@@ -10,56 +10,21 @@ use lib.Seq.{drop-at, take-add, drop-drop, length-take-le}
 use borrow.Author.Tests.{eq-eqb, ne-eqb, eqb-false, lt-ltb, not-true}
 use Rattle.paper.specs.Lists.{at, gather}
 use Rattle.paper.specs.Bytes.{four}
-use Rattle.paper.specs.Limits.{limits}
 use Rattle.paper.specs.Table.{nodes, edges}
 use Rattle.paper.specs.Marking.{Marking}
 use Rattle.paper.proofs.Bools.{and-true}
-use Rattle.words.specs.Marks.{MarksOf, isMarked}
-use Rattle.words.proofs.Marks.{mark-test}
-use Rattle.marking_held.specs.declared.Held.{Held}
-use Rattle.marking_held.specs.Filling.{Filled}
-use Rattle.marking_held.specs.MarkingHeld.{StockHeld, HeldLengths, MarkingHeld}
-use Rattle.marking_held.proofs.Fillings.{filled-none, filled-set, filled-skip}
-use Rattle.step_spend.specs.Spending.{loses, goes, secondValue, tokensSpent, stocksSpent}
+use Rattle.marking_held.specs.MarkingHeld.{StockHeld, MarkingHeld, heldIn}
+use Rattle.marking_held.proofs.Fillings.{filled-none, filled-set, filled-as}
+use Rattle.step_spend.specs.Spending.{loses, goes, secondValue, TokensGone, OldestGone, tokensSpent, stocksSpent}
 
 -- ---- counts
-abbrev pub withTokens : Held → List ℕ → Held
-withTokens x tokens = record { from = x .from; kept = x .kept; place = x .place; more = x .more; runs = x .runs; tokens = tokens }
-
--- y is x with the counts of marked edges below n at 0
-pub record TokensGone (marks : List ℕ) (x y : Held) (n : ℕ) : Type 0 where
-  pub others : y ≡ withTokens x (y .tokens)
-  pub filled : Filled (λ e. cond (isMarked marks e) 0 (at (x .tokens) e)) (x .tokens) (y .tokens) n
-
-pub tokens-none : (marks : List ℕ) (x : Held) → TokensGone marks x x 0
-tokens-none marks x = record { others = refl; filled = filled-none (λ e. cond (isMarked marks e) 0 (at (x .tokens) e)) (x .tokens) }
-
-module _ {marks : List ℕ} {x y : Held} {n : ℕ} (h : TokensGone marks x y n) where
-  pub tokens-next : n < length (y .tokens) → (v : ℕ) → v ≡ cond (isMarked marks n) 0 (at (y .tokens) n)
-      → TokensGone marks x (withTokens y (set (y .tokens) n v)) (n + 1)
-  tokens-next l v e = record {
-    others = ap (λ (z : Held). withTokens z (set (y .tokens) n v)) (h .others);
-    filled = filled-set (h .filled) v l (e ∙ ap (cond (isMarked marks n) 0) (h .filled .rest n (omega arith)));
-  }
-
-  pub tokens-lengths : HeldLengths x → HeldLengths y
-  tokens-lengths l = subst HeldLengths (sym (h .others)) (record {
-    from-long = l .from-long;
-    kept-long = l .kept-long;
-    place-long = l .place-long;
-    more-long = l .more-long;
-    runs-long = l .runs-long;
-    tokens-long = h .filled .long ∙ l .tokens-long;
-  })
-
-  pub tokens-held : (p : ℕ → Bool) → MarksOf p (limits .mostEdges) marks → n ≤ limits .mostEdges → (t : List ℕ) (m : Marking) (b : List ℕ) → n ≡ edges t
-      → MarkingHeld t m b [] x → MarkingHeld t (tokensSpent p m) b [] y
-  tokens-held p k few t m b e v = subst (λ (z : Held). MarkingHeld t (tokensSpent p m) b [] z) (sym (h .others)) (record {
-    stocks = v .stocks;
-    running = v .running;
-    counts = λ j l c.
-        h .filled .done j (omega arith) ∙ ap (λ (g : Bool). cond g 0 (at (x .tokens) j)) (mark-test k j (omega arith)) ∙ ap (cond (p j) 0) (v .counts j l c);
-  })
+pub tokens-held : (p : ℕ → Bool) {old new : List ℕ} {n : ℕ} → TokensGone p old new n → {t : List ℕ} {m : Marking} {b extra f k q s r : List ℕ} → n ≡ edges t
+    → MarkingHeld t m b extra (heldIn f k q s r old) → MarkingHeld t (tokensSpent p m) b extra (heldIn f k q s r new)
+tokens-held p h e v = record {
+  stocks = v .stocks;
+  running = v .running;
+  counts = λ j l c. h .done j (omega arith) ∙ ap (cond (p j) 0) (v .counts j l c);
+}
 
 -- ---- one stock
 second-place : (f : ℕ) → f + 4 < 65536 → secondValue f ≡ f + 4
@@ -101,54 +66,38 @@ stock-spent b (v ∷ vs) f k q n true s h =
 pub goes-some : (mark kept : ℕ) → goes mark kept ≡ true → 1 ≤ kept
 goes-some mark kept e = let z = eqb-false kept 0 (not-true (eqb kept 0) (and-true (not (eqb mark 0)) (not (eqb kept 0)) e .1)) in omega (arith, z)
 
-abbrev pub withStocks : Held → List ℕ → List ℕ → Held
-withStocks x from kept = record { from = from; kept = kept; place = x .place; more = x .more; runs = x .runs; tokens = x .tokens }
-
--- y is x without the oldest value of each node below n that is marked and not empty: the stock starts one later and has one less
-pub record OldestGone (marks : List ℕ) (x y : Held) (n : ℕ) : Type 0 where
-  pub others : y ≡ withStocks x (y .from) (y .kept)
-  pub froms : Filled (λ i. cond (goes (at marks i) (at (x .kept) i)) (secondValue (at (x .from) i)) (at (x .from) i)) (x .from) (y .from) n
-  pub kepts : Filled (λ i. cond (goes (at marks i) (at (x .kept) i)) (at (x .kept) i - 1) (at (x .kept) i)) (x .kept) (y .kept) n
-
-pub oldest-none : (marks : List ℕ) (x : Held) → OldestGone marks x x 0
-oldest-none marks x = record {
-  others = refl;
-  froms = filled-none (λ i. cond (goes (at marks i) (at (x .kept) i)) (secondValue (at (x .from) i)) (at (x .from) i)) (x .from);
-  kepts = filled-none (λ i. cond (goes (at marks i) (at (x .kept) i)) (at (x .kept) i - 1) (at (x .kept) i)) (x .kept);
+pub oldest-none : (p : ℕ → Bool) (from kept : List ℕ) → OldestGone p from kept from kept 0
+oldest-none p from kept = record {
+  froms = filled-none (λ i. cond (p i && not (eqb (at kept i) 0)) (secondValue (at from i)) (at from i)) from;
+  kepts = filled-none (λ i. cond (p i && not (eqb (at kept i) 0)) (at kept i - 1) (at kept i)) kept;
 }
 
-module _ {marks : List ℕ} {x y : Held} {n : ℕ} (h : OldestGone marks x y n) where
-  pub oldest-next : n < length (y .from) → n < length (y .kept) → (f k : ℕ)
-      → f ≡ cond (goes (at marks n) (at (y .kept) n)) (secondValue (at (y .from) n)) (at (y .from) n)
-      → k ≡ cond (goes (at marks n) (at (y .kept) n)) (at (y .kept) n - 1) (at (y .kept) n)
-      → OldestGone marks x (withStocks y (set (y .from) n f) (set (y .kept) n k)) (n + 1)
+module _ {p : ℕ → Bool} {from kept from′ kept′ : List ℕ} {n : ℕ} (h : OldestGone p from kept from′ kept′ n) where
+  pub oldest-next : n < length from′ → n < length kept′ → (f k : ℕ)
+      → f ≡ cond (p n && not (eqb (at kept′ n) 0)) (secondValue (at from′ n)) (at from′ n)
+      → k ≡ cond (p n && not (eqb (at kept′ n) 0)) (at kept′ n - 1) (at kept′ n)
+      → OldestGone p from kept (set from′ n f) (set kept′ n k) (n + 1)
   oldest-next lf lk f k ef ek =
       let q = h .kepts .rest n (omega arith) in
       let r = h .froms .rest n (omega arith) in
-      record {
-        others = ap (λ (z : Held). withStocks z (set (y .from) n f) (set (y .kept) n k)) (h .others);
-        froms = filled-set (h .froms) f lf (rw (q, r) at ef);
-        kepts = filled-set (h .kepts) k lk (rw q at ek);
-      }
+      record { froms = filled-set (h .froms) f lf (rw (q, r) at ef); kepts = filled-set (h .kepts) k lk (rw q at ek) }
 
-  pub oldest-lengths : HeldLengths x → HeldLengths y
-  oldest-lengths l = subst HeldLengths (sym (h .others)) (record {
-    from-long = h .froms .long ∙ l .from-long;
-    kept-long = h .kepts .long ∙ l .kept-long;
-    place-long = l .place-long;
-    more-long = l .more-long;
-    runs-long = l .runs-long;
-    tokens-long = l .tokens-long;
-  })
+  -- the nodes that are marked are those that lose
+  pub oldest-marked : (g : ℕ → Bool) → ((i : ℕ) → i < n → p i ≡ g i) → OldestGone g from kept from′ kept′ n
+  oldest-marked g e = record {
+    froms = filled-as (h .froms) (λ i. cond (g i && not (eqb (at kept i) 0)) (secondValue (at from i)) (at from i))
+        (λ i l. ap (λ (z : Bool). cond (z && not (eqb (at kept i) 0)) (secondValue (at from i)) (at from i)) (e i l));
+    kepts = filled-as (h .kepts) (λ i. cond (g i && not (eqb (at kept i) 0)) (at kept i - 1) (at kept i))
+        (λ i l. ap (λ (z : Bool). cond (z && not (eqb (at kept i) 0)) (at kept i - 1) (at kept i)) (e i l));
+  }
 
-  pub oldest-held : (p : ℕ → Bool) (t : List ℕ) → MarksOf (loses p t) (limits .mostNodes) marks → n ≤ limits .mostNodes → n ≡ nodes t
-      → (m : Marking) (b : List ℕ) → length b < 65536 → MarkingHeld t m b [] x → MarkingHeld t (stocksSpent p t m) b [] y
-  oldest-held p t k few e m b s v = subst (λ (z : Held). MarkingHeld t (stocksSpent p t m) b [] z) (sym (h .others)) (record {
-    stocks = λ i l o.
-        let z : i < n = omega arith in
-        let w : isMarked marks i ≡ loses p t i = mark-test k i (omega arith) in
-        rw (h .froms .done i z, h .kepts .done i z, w)
-        (stock-spent b (m .stock i) (at (x .from) i) (at (x .kept) i) (at (x .place) i) (at (x .more) i) (loses p t i) s (v .stocks i l o));
-    running = v .running;
-    counts = v .counts;
-  })
+pub oldest-held : (p : ℕ → Bool) (t : List ℕ) {from kept from′ kept′ : List ℕ} {n : ℕ} → OldestGone (loses p t) from kept from′ kept′ n → n ≡ nodes t
+    → {m : Marking} {b q s r o : List ℕ} → length b < 65536
+    → MarkingHeld t m b [] (heldIn from kept q s r o) → MarkingHeld t (stocksSpent p t m) b [] (heldIn from′ kept′ q s r o)
+oldest-held p t {from} {kept} h e {m} {b} {q} {s} short v = record {
+  stocks = λ i l o.
+      rw (h .froms .done i (omega arith), h .kepts .done i (omega arith))
+      (stock-spent b (m .stock i) (at from i) (at kept i) (at q i) (at s i) (loses p t i) short (v .stocks i l o));
+  running = v .running;
+  counts = v .counts;
+}

@@ -1,5 +1,5 @@
--- What a step spends, said of rows of the offer list. Assumes nothing.
-use Prim.Native.Nat.{ℕ, _+_}
+-- What a step spends, said of rows of the offer list and of columns of the marking. Assumes nothing.
+use Prim.Native.Nat.{ℕ, _+_, _-_}
 use mathlib.Core.Bool.{Bool, not, _&&_, cond}
 use mathlib.Core.List.{List}
 use lib.Dec.{ltb, eqb}
@@ -7,6 +7,7 @@ use lib.ListN.{drop}
 use Rattle.paper.specs.Lists.{at, has, below, any}
 use Rattle.paper.specs.Table.{out}
 use Rattle.paper.specs.Marking.{Marking}
+use Rattle.marking_held.specs.Filling.{Filled}
 
 -- row y is in the word w and is a first offer, which was made from none, on edge e
 abbrev pub spendsRow : List ℕ → List ℕ → ℕ → ℕ → ℕ → Bool
@@ -28,6 +29,17 @@ goes mark kept = not (eqb mark 0) && not (eqb kept 0)
 abbrev pub secondValue : ℕ → ℕ
 secondValue f = cond (ltb f 65532) (f + 4) 0
 
+-- ---- the columns
+-- of the first n edges those that p says have count 0
+abbrev pub TokensGone : (ℕ → Bool) → List ℕ → List ℕ → ℕ → Type 0
+TokensGone p old new n = Filled (λ e. cond (p e) 0 (at old e)) old new n
+
+-- of the first n nodes those that p says and that are not empty lose the oldest value: the stock starts one later and has one less
+pub record OldestGone (p : ℕ → Bool) (from kept from′ kept′ : List ℕ) (n : ℕ) : Type 0 where
+  pub froms : Filled (λ i. cond (p i && not (eqb (at kept i) 0)) (secondValue (at from i)) (at from i)) from from′ n
+  pub kepts : Filled (λ i. cond (p i && not (eqb (at kept i) 0)) (at kept i - 1) (at kept i)) kept kept′ n
+
+-- ---- the marking
 -- m with the edges spent that p says: a count goes to 0
 abbrev pub tokensSpent : (ℕ → Bool) → Marking → Marking
 tokensSpent p m = record { ended = m .ended; runs = m .runs; stock = m .stock; tokens = λ e. cond (p e) 0 (m .tokens e) }

@@ -1,22 +1,18 @@
 // "Each first offer among the makers of taken ends is spent; an object node loses its oldest value, a control edge goes to 0."
 // The makers of taken ends are given as a word of rows; a row is a first offer if it was made from none. What is spent is marked once, a byte an edge.
-// What is held is taken by value and changed in place; columns of the offers are lent.
+// Columns of the offers are lent, and those of the marking that are changed.
 // Functions that read a table's fields require that its bytes were read as a table.
-use marking_held::Held;
 use table::Table;
 ghost use mathlib.Core.Path.{_≡_};
 ghost use mathlib.Core.Bool.{Bool, not, _&&_, cond};
-ghost use mathlib.Core.List.{List, []};
 ghost use Prim.Native.Nat.{ℕ, _+_, _-_, _≤_, _<_};
 ghost use lib.Dec.{eqb};
 ghost use lib.ListN.{length};
 ghost use Rattle.paper.specs.Lists.{has};
 ghost use Rattle.paper.specs.Limits.{limits};
-ghost use Rattle.paper.specs.Marking.{Marking};
 ghost use Rattle.words.specs.Marks.{MarksOf};
 ghost use Rattle.table.specs.Reading.{Spans};
-ghost use Rattle.marking_held.specs.MarkingHeld.{HeldLengths, MarkingHeld};
-ghost use Rattle.step_spend.specs.Spending.{spends, loses, goes, secondValue, tokensSpent, stocksSpent, spentBy};
+ghost use Rattle.step_spend.specs.Spending.{spends, loses, goes, secondValue, TokensGone, OldestGone};
 
 // Whether row y, which was made from the rows `parents`, is in the word and is a first offer.
 fn is_first(parents: u64, w: u64, y: usize) -> bool
@@ -59,18 +55,17 @@ fn tokens_left(spent: u8, tokens: u8) -> u8
 }
 
 // However much an edge holds, it goes to 0 if it is spent. Each count is stored, spent or not: a branch would take longer.
-fn spend_tokens(table: Table, spent: &[u8], mut held: Held) -> Held
-    requires { ⌜ (table .edges ≤ limits .mostEdges) × (table .edges ≤ length (now spent)) × HeldLengths held ⌝ }
-    ensures { λ r. ⌜ HeldLengths r × ((p : ℕ → Bool) → MarksOf p (limits .mostEdges) (now (spent .entry)) → (t : List ℕ) (m : Marking) (b : List ℕ) → Spans t table
-        → MarkingHeld t m b [] held → MarkingHeld t (tokensSpent p m) b [] r) ⌝ }
+pub fn spend_tokens(table: Table, spent: &[u8], tokens: &mut [u8])
+    requires { ⌜ (table .edges ≤ limits .mostEdges) × (table .edges ≤ length (now spent)) × (table .edges ≤ length (now tokens)) ⌝ }
+    ensures { λ _. ⌜ ((p : ℕ → Bool) → MarksOf p (limits .mostEdges) (now (spent .entry))
+        → TokensGone p (now (tokens .entry)) (now (tokens .exit)) (table .edges)) ⌝ }
 {
     let n = table.edges;
     let mut e: usize = 0;
     while e < n {
-        held.tokens[e] = tokens_left(spent[e], held.tokens[e]);
+        tokens[e] = tokens_left(spent[e], tokens[e]);
         e += 1;
     }
-    held
 }
 
 // The nodes that a spent edge leaves, marked.
@@ -126,28 +121,17 @@ fn kept_left(losing: u8, kept: u8) -> u8
 }
 
 // An object node loses one value, the oldest, however many of its edges are spent. Of other nodes nobody looks at what is kept.
-fn spend_stocks(t: &[u8], table: Table, spent: &[u8], mut held: Held) -> Held
-    requires { ⌜ Spans (now t) table × (table .edges ≤ length (now spent)) × HeldLengths held ⌝ }
-    ensures { λ r. ⌜ HeldLengths r × ((p : ℕ → Bool) → MarksOf p (limits .mostEdges) (now (spent .entry)) → (m : Marking) (b : List ℕ) → length b < 65536
-        → MarkingHeld (now (t .entry)) m b [] held → MarkingHeld (now (t .entry)) (stocksSpent p (now (t .entry)) m) b [] r) ⌝ }
+pub fn spend_stocks(t: &[u8], table: Table, spent: &[u8], from: &mut [u16], kept: &mut [u8])
+    requires { ⌜ Spans (now t) table × (table .edges ≤ length (now spent)) × (table .nodes ≤ length (now from)) × (table .nodes ≤ length (now kept)) ⌝ }
+    ensures { λ _. ⌜ ((p : ℕ → Bool) → MarksOf p (limits .mostEdges) (now (spent .entry))
+        → OldestGone (loses p (now (t .entry))) (now (from .entry)) (now (kept .entry)) (now (from .exit)) (now (kept .exit)) (table .nodes)) ⌝ }
 {
     let losing = losing_nodes(t, table, spent);
     let n = table.nodes;
     let mut i: usize = 0;
     while i < n {
-        held.from[i] = from_left(losing[i], held.kept[i], held.from[i]);
-        held.kept[i] = kept_left(losing[i], held.kept[i]);
+        from[i] = from_left(losing[i], kept[i], from[i]);
+        kept[i] = kept_left(losing[i], kept[i]);
         i += 1;
     }
-    held
-}
-
-// What is held after the edges that are marked are spent.
-pub fn spend(t: &[u8], table: Table, spent: &[u8], held: Held) -> Held
-    requires { ⌜ Spans (now t) table × (table .edges ≤ length (now spent)) × HeldLengths held ⌝ }
-    ensures { λ r. ⌜ HeldLengths r × ((p : ℕ → Bool) → MarksOf p (limits .mostEdges) (now (spent .entry)) → (m : Marking) (b : List ℕ) → length b < 65536
-        → MarkingHeld (now (t .entry)) m b [] held → MarkingHeld (now (t .entry)) (spentBy p (now (t .entry)) m) b [] r) ⌝ }
-{
-    let left = spend_tokens(table, spent, held);
-    spend_stocks(t, table, spent, left)
 }

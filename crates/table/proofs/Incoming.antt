@@ -129,7 +129,7 @@ some-list next j f = by (limits .mostEdges) j (omega arith)
   where
     by : (n j : ℕ) → limits .mostEdges ≤ n + j → (js : List ℕ) × ListFrom next j js
     by zero j l = let z : limits .mostEdges ≤ j = omega arith in ([], z)
-    by (suc n) j l = elim (decLt j 64) [
+    by (suc n) j l = elim (decLt j (limits .mostEdges)) [
       | yes q ↦ let u = f j q in let r = by n (getD next j 0) (omega arith) in (j ∷ r .0, ((refl, q), r .1))
       | no q ↦ let z : limits .mostEdges ≤ j = omega arith in ([], z)
     ]

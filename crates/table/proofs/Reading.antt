@@ -15,11 +15,11 @@ use Rattle.paper.proofs.Lists.{lowest-none, lowest-some}
 use Rattle.paper.proofs.Ladders.{no-good, row-good, same-good}
 use Rattle.paper.proofs.Tables.{GoodTable, table-good}
 use Rattle.table.specs.declared.Table.{Table}
-use Rattle.table.specs.Reading.{countsOf, tableRead, Spans, Blank}
+use Rattle.table.specs.Reading.{countsOf, readUnder, tableRead, Spans, Blank}
 
 -- the rows alone, without the counts
 pub read-refused : (t : List ℕ) (n p : ℕ) → tableRead t ≡ refused n p → tableFine t limits ≡ refused n p
-unfolding tableRead
+unfolding readUnder
 read-refused t n p e = by (tableFine t limits) e
   where
     by : (a : Answer (Unit {0})) → a >>= (λ u. good (countsOf t)) ≡ refused n p → a ≡ refused n p
@@ -28,11 +28,11 @@ read-refused t n p e = by (tableFine t limits) e
 
 module _ (t : List ℕ) {x : Table} (h : tableRead t ≡ good x) where
   pub read-fine : tableFine t limits ≡ good tt
-  unfolding tableRead
+  unfolding readUnder
   read-fine = row-good (tableFine t limits) (λ u. good (countsOf t)) x h .1
 
   counts-read : countsOf t ≡ x
-  unfolding tableRead
+  unfolding readUnder
   counts-read = same-good (row-good (tableFine t limits) (λ u. good (countsOf t)) x h .2)
 
   pub read-good : GoodTable t limits

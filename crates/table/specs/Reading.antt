@@ -7,9 +7,10 @@ use mathlib.Core.Option.{Option, none, some}
 use lib.ListN.{length}
 use Rattle.paper.specs.Lists.{at}
 use Rattle.paper.specs.Answers.{Answer, refused, good, _>>=_}
-use Rattle.paper.specs.Limits.{limits}
+use Rattle.paper.specs.Limits.{Limits as Paper, limitsFor, limits}
 use Rattle.paper.specs.Table.{nodes, edges, edgeAt, nodeFine, edgeFine, tableFine}
 use Rattle.table.specs.declared.Table.{Table}
+use Rattle.table.specs.declared.Limits.{Limits}
 use Rattle.table.specs.declared.TableAnswer.{TableAnswer}
 use Rattle.table.specs.declared.TableAnswer.the-variants.{Good, Refused}
 use Rattle.table.specs.declared.Found.{Found}
@@ -23,11 +24,23 @@ said (Refused n p) = refused n p
 abbrev pub countsOf : List ℕ → Table
 countsOf t = record { nodes = nodes t; edges = edges t }
 
--- rows 1 to 4, and the counts of a table that passes them
-unfoldable pub tableRead : List ℕ → Answer Table
-tableRead t = do
-  _ ← tableFine t limits
+-- rows 1 to 4 under limits l, and the counts of a table that passes them
+unfoldable pub readUnder : Paper → List ℕ → Answer Table
+readUnder l t = do
+  _ ← tableFine t l
   good (countsOf t)
+
+-- under today's
+abbrev pub tableRead : List ℕ → Answer Table
+tableRead t = readUnder limits t
+
+-- the limits that a reader is handed; arrays hold no more than today's
+abbrev pub under : Limits → Paper
+under l = limitsFor (l .nodes) (l .edges) (limits .longestMarking)
+
+pub record Holdable (l : Limits) : Type 0 where
+  pub nodes-hold : l .nodes ≤ limits .mostNodes
+  pub edges-hold : l .edges ≤ limits .mostEdges
 
 -- the place of each answer of a search
 abbrev pub found : Found → Option ℕ

@@ -17,6 +17,12 @@ pub struct Table {
     pub edges: usize,
 }
 
+// How many nodes and edges a table may have.
+pub struct Limits {
+    pub nodes: usize,
+    pub edges: usize,
+}
+
 // The counts of a good table, or the refusal's number and its place.
 pub enum TableAnswer {
     Good(Table),
@@ -30,10 +36,13 @@ pub enum Found {
 }
 
 impl Table {
-    // The paper's limits.
-    pub const MOST_NODES: usize = 48;
+    // The paper's limits, which are what arrays hold.
+    pub const MOST_NODES: usize = 120;
 
-    pub const MOST_EDGES: usize = 64;
+    pub const MOST_EDGES: usize = 200;
+
+    // Bytes of the longest marking.
+    pub const LONGEST_MARKING: usize = 8192;
 
     pub const MOST_UPPER: usize = 16;
 

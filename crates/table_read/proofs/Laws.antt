@@ -1,4 +1,4 @@
--- The ladder of rows 1 to 4. Assumes nothing.
+-- The ladder of rows 1 to 4 under any limits: none of them moves more than the counts that row 1 asks for. Assumes nothing.
 use mathlib.Core.Path.{_≡_, sym, ap₂}
 use Prim.Native.Nat.{ℕ, _-_, _<_}
 use native.Mathlib.Omega.{arith}
@@ -9,32 +9,33 @@ use borrow.Author.Tests.{not-false}
 use Rattle.paper.specs.Lists.{lowest}
 use Rattle.paper.specs.Answers.{refused, good}
 use Rattle.paper.specs.Limits.{limits}
-use Rattle.paper.specs.Table.{nodes, edges, frameFine, nodeFine, edgeFine, tableFine, shapeFine}
+use Rattle.paper.specs.Table.{nodes, edges, frameFine, nodeFine, edgeFine, tableFine, chainFine, shapeFine}
 use Rattle.paper.proofs.Lists.{lowest-is, lowest-is-none}
 use Rattle.table.specs.declared.Table.{Table}
-use Rattle.table.specs.Reading.{countsOf, tableRead}
+use Rattle.table.specs.declared.Limits.{Limits}
+use Rattle.table.specs.Reading.{countsOf, readUnder, under}
 
-pub row-1 : (t : List ℕ) → frameFine t limits ≡ false → refused 1 0 ≡ tableRead t
-unfolding tableRead tableFine
-row-1 t f = sym (rw f)
+pub row-1 : (l : Limits) (t : List ℕ) → frameFine t (under l) ≡ false → refused 1 0 ≡ readUnder (under l) t
+unfolding readUnder tableFine nodeFine shapeFine chainFine
+row-1 l t f = sym (rw f)
 
-module _ (t : List ℕ) (frame : frameFine t limits ≡ true) where
-  pub row-2 : (i : ℕ) → lowest (λ k. not (nodeFine t limits k)) (nodes t) ≡ some i → refused 2 i ≡ tableRead t
-  unfolding tableRead tableFine
+module _ (l : Limits) (t : List ℕ) (frame : frameFine t (under l) ≡ true) where
+  pub row-2 : (i : ℕ) → lowest (λ k. not (nodeFine t limits k)) (nodes t) ≡ some i → refused 2 i ≡ readUnder (under l) t
+  unfolding readUnder tableFine nodeFine shapeFine chainFine
   row-2 i n = sym (rw (frame, n))
 
   module _ (nodes-pass : lowest (λ k. not (nodeFine t limits k)) (nodes t) ≡ none) where
-    pub row-3 : (j : ℕ) → lowest (λ k. not (edgeFine t k)) (edges t) ≡ some j → refused 3 j ≡ tableRead t
-    unfolding tableRead tableFine
+    pub row-3 : (j : ℕ) → lowest (λ k. not (edgeFine t k)) (edges t) ≡ some j → refused 3 j ≡ readUnder (under l) t
+    unfolding readUnder tableFine nodeFine shapeFine chainFine
     row-3 j e = sym (rw (frame, nodes-pass, e))
 
     module _ (edges-pass : lowest (λ k. not (edgeFine t k)) (edges t) ≡ none) where
-      pub row-4 : (i : ℕ) → lowest (λ k. not (shapeFine t limits k)) (nodes t) ≡ some i → refused 4 i ≡ tableRead t
-      unfolding tableRead tableFine
+      pub row-4 : (i : ℕ) → lowest (λ k. not (shapeFine t limits k)) (nodes t) ≡ some i → refused 4 i ≡ readUnder (under l) t
+      unfolding readUnder tableFine nodeFine shapeFine chainFine
       row-4 i s = sym (rw (frame, nodes-pass, edges-pass, s))
 
-      pub no-row : lowest (λ k. not (shapeFine t limits k)) (nodes t) ≡ none → good (countsOf t) ≡ tableRead t
-      unfolding tableRead tableFine
+      pub no-row : lowest (λ k. not (shapeFine t limits k)) (nodes t) ≡ none → good (countsOf t) ≡ readUnder (under l) t
+      unfolding readUnder tableFine nodeFine shapeFine chainFine
       no-row s = sym (rw (frame, nodes-pass, edges-pass, s))
 
 -- where none fails, all pass

@@ -1,6 +1,7 @@
 // Reading a table: rows 1 to 4 of the paper's table of refusals.
 // `read` assumes nothing. Functions that read fields require that the bytes span the counts (`Spans`), which it makes sure of first.
 use table::Found;
+use table::Limits;
 use table::Table;
 use table::TableAnswer;
 use table::is_control_node;
@@ -16,7 +17,7 @@ ghost use Rattle.paper.specs.Lists.{lowest, within};
 ghost use Rattle.paper.specs.Limits.{limits};
 ghost use Rattle.paper.specs.Table.{nodes, edges, kind, isPin, isAction, isInput, isObjectNode, mayLeave, mayEnter};
 ghost use Rattle.paper.specs.Table.{frameFine, nodeFine, edgeFine};
-ghost use Rattle.table.specs.Reading.{said, tableRead, found, Spans};
+ghost use Rattle.table.specs.Reading.{said, readUnder, tableRead, under, Holdable, found, Spans};
 
 // Whether an edge may leave a node of kind k.
 fn may_leave(object: bool, k: usize) -> bool
@@ -47,9 +48,9 @@ fn may_enter(object: bool, k: usize) -> bool
     k == Table::BUFFER || k == Table::OUTGOING
 }
 
-// Row 1.
-fn frame_fine(s: &[u8]) -> bool
-    ensures { λ r. ⌜ r ≡ frameFine (now (s .entry)) limits ⌝ }
+// Row 1, under the limits that are handed.
+fn frame_fine(s: &[u8], most: Limits) -> bool
+    ensures { λ r. ⌜ r ≡ frameFine (now (s .entry)) (under most) ⌝ }
 {
     let l = s.len();
     if l < Table::HEADER {
@@ -64,10 +65,10 @@ fn frame_fine(s: &[u8]) -> bool
     let table = Table::counts(s);
     let n = table.nodes;
     let e = table.edges;
-    if !within(1, Table::MOST_NODES, n) {
+    if !within(1, most.nodes, n) {
         return false;
     }
-    if Table::MOST_EDGES < e {
+    if most.edges < e {
         return false;
     }
     l == table.edge_at(e)
@@ -182,11 +183,12 @@ fn bad_edge(s: &[u8], table: Table) -> Found
     Found::Nothing
 }
 
-// The table in the bytes, or the first of rows 1 to 4 that refuses it.
-pub fn read(s: &[u8]) -> TableAnswer
-    ensures { λ r. ⌜ said r ≡ tableRead (now (s .entry)) ⌝ }
+// The table in the bytes, or the first of rows 1 to 4 that refuses it, under any limits that arrays hold.
+pub fn read_under(s: &[u8], most: Limits) -> TableAnswer
+    requires { ⌜ Holdable most ⌝ }
+    ensures { λ r. ⌜ said r ≡ readUnder (under most) (now (s .entry)) ⌝ }
 {
-    if !frame_fine(s) {
+    if !frame_fine(s, most) {
         return TableAnswer::Refused(1, 0);
     }
     let table = Table::counts(s);
@@ -200,4 +202,17 @@ pub fn read(s: &[u8]) -> TableAnswer
         return TableAnswer::Refused(4, i as u8);
     }
     TableAnswer::Good(table)
+}
+
+// Under today's.
+pub fn read(s: &[u8]) -> TableAnswer
+    ensures { λ r. ⌜ said r ≡ tableRead (now (s .entry)) ⌝ }
+{
+    read_under(
+        s,
+        Limits {
+            nodes: Table::MOST_NODES,
+            edges: Table::MOST_EDGES,
+        },
+    )
 }

@@ -8,13 +8,12 @@ use Rattle.paper.specs.Lists.{at}
 use Rattle.paper.specs.Choices.{Board}
 use Rattle.paper.specs.Operations.{SomeLeft, NoneLeft}
 use Rattle.offers.specs.declared.Offers.{Offers}
-use Rattle.marking_held.specs.declared.Held.{Held}
 use Rattle.ends_masks.specs.Seating.{EndsFull, Stands, destinationsFit, noRivals, forksWhole}
 use Rattle.ends_masks.specs.declared.Ends.{Ends}
 
--- P holds of every board that stands in these values
-abbrev pub OnBoard : List ℕ → Offers → Ends → Held → (Board → Type 0) → Type 0
-OnBoard t o e held P = (d : Board) → Stands t d o e (held .runs) (held .kept) → P d
+-- P holds of every board that stands in these values: what is kept says of each node its stock, or whether it runs
+abbrev pub OnBoard : List ℕ → Offers → Ends → List ℕ → (Board → Type 0) → Type 0
+OnBoard t o e kept P = (d : Board) → Stands t d o e kept kept → P d
 
 -- what the levels past the first ask, if the targets and homes are those of the node's own ends
 abbrev pub asks : List ℕ → Offers → Ends → List ℕ → List ℕ → List (ℕ → Bool)

@@ -1,24 +1,24 @@
 // why on a board: the first level at which no choice is left for a node, and that byte written.
-// Takes a board's offers, its ends and what is held by value; what they mean is said of any board that stands in them (`OnBoard`). A level is asked as pick is, of a net with the rules of the levels up to it.
+// Takes a board's offers, its ends and what is kept of a marking by value; what they mean is said of any board that stands in them (`OnBoard`). A level is asked as
+// pick is, of a net with the rules of the levels up to it.
 ghost use mathlib.Core.Path.{_≡_};
 ghost use mathlib.Core.Bool.{cond, _&&_};
 ghost use mathlib.Core.List.{[], _∷_};
 ghost use Prim.Native.Nat.{ℕ, suc, _+_, _^_, _≤_, _<_};
 ghost use lib.Dec.{leb, eqb};
 ghost use lib.ListN.{length};
+ghost use Rattle.paper.specs.Limits.{limits};
 ghost use Rattle.paper.specs.Answers.{good};
 ghost use Rattle.paper.specs.Choices.{howMany};
 ghost use Rattle.paper.specs.Operations.{inRoom, Reply, Leaves, ownOf, levels, left, FirstEmpty, Reason, WhyIf};
 ghost use Rattle.table.specs.Reading.{tableRead, Blank};
 ghost use Rattle.offers.specs.Struct.{Full};
-ghost use Rattle.marking_held.specs.MarkingHeld.{HeldLengths};
-ghost use Rattle.pick_bounds.specs.Net.{held as heldOf};
+ghost use Rattle.pick_bounds.specs.Net.{held};
 ghost use Rattle.ends_masks.specs.Seating.{EndsFull};
 ghost use Rattle.pick_rules.specs.Rules.{mostRules, netCells, Roomy, holds};
 ghost use Rattle.pick.specs.Picking.{Answered};
 ghost use Rattle.why.specs.Reasons.{OnBoard, OwnOnly, OwnEnds, asks, Whether};
 use ends_masks::Ends;
-use marking_held::Held;
 use offers::Offers;
 use pick::Question;
 use pick_search::ChoiceFound;
@@ -97,22 +97,22 @@ fn fill(
     table: Table,
     offers: Offers,
     ends: Ends,
-    held: Held,
+    kept: [u8; Table::MOST_NODES],
     k: usize,
 ) -> usize
-    requires { ⌜ Blank (now net) × (netCells ≤ length (now net)) × (tableRead (now t) ≡ good table) × Full offers × EndsFull ends × HeldLengths held ⌝ }
-    ensures { λ r. ⌜ (r ≤ mostRules) × (k ≤ 3 → Roomy (now (t .entry)) (held .kept) → (c : ℕ) → holds (now (net .exit)) r (ends .count) c ≡ left (asks (now (t .entry)) offers ends (held .runs) (held .kept)) k c) ⌝ }
+    requires { ⌜ Blank (now net) × (netCells ≤ length (now net)) × (tableRead (now t) ≡ good table) × Full offers × EndsFull ends × (length kept ≡ limits .mostNodes) ⌝ }
+    ensures { λ r. ⌜ (r ≤ mostRules) × (k ≤ 3 → Roomy (now (t .entry)) kept → (c : ℕ) → holds (now (net .exit)) r (ends .count) c ≡ left (asks (now (t .entry)) offers ends kept kept) k c) ⌝ }
 {
     if k == 0 {
         return 0;
     }
     if k == 1 {
-        return pick_rules::add_destinations(net, 0, t, table, ends, held);
+        return pick_rules::add_destinations(net, 0, t, table, ends, kept);
     }
     let foes = ends.foes;
     let makers = ends.makers;
     pick_rules::fill_rivals(net, &foes, &makers, ends.count);
-    let own = pick_rules::add_destinations(net, 0, t, table, ends, held);
+    let own = pick_rules::add_destinations(net, 0, t, table, ends, kept);
     if k == 2 {
         return own;
     }
@@ -125,18 +125,18 @@ fn prepare(
     table: Table,
     offers: Offers,
     ends: Ends,
-    held: Held,
+    kept: [u8; Table::MOST_NODES],
     node: u8,
     k: usize,
     net: &mut [u32],
 ) -> Question
-    requires { ⌜ (tableRead (now t) ≡ good table) × Full offers × EndsFull ends × HeldLengths held × (node < table .nodes) × Blank (now net) × (netCells ≤ length (now net)) ⌝ }
-    ensures { λ r. ⌜ (r .rules ≤ mostRules) × (k ≤ 3 → OnBoard (now (t .entry)) offers ends held (λ d. (c : ℕ) → holds (now (net .exit)) (r .rules) (ends .count) c && leb (r .want .least) (heldOf (ends .count) c (r .want .ends)) ≡ left (levels d node) (suc k) c)) ⌝ }
+    requires { ⌜ (tableRead (now t) ≡ good table) × Full offers × EndsFull ends × (length kept ≡ limits .mostNodes) × (node < table .nodes) × Blank (now net) × (netCells ≤ length (now net)) ⌝ }
+    ensures { λ r. ⌜ (r .rules ≤ mostRules) × (k ≤ 3 → OnBoard (now (t .entry)) offers ends kept (λ d. (c : ℕ) → holds (now (net .exit)) (r .rules) (ends .count) c && leb (r .want .least) (held (ends .count) c (r .want .ends)) ≡ left (levels d node) (suc k) c)) ⌝ }
 {
     let target = ends.target;
     let home = ends.home;
     let own = own_ends(ends, own_of(t, table, wire::wide(node)));
-    let rules = fill(net, t, table, offers, own, held, k);
+    let rules = fill(net, t, table, offers, own, kept, k);
     Question {
         rules: rules,
         want: pick_wanted::wanted(&target, &home, ends.count, node),
@@ -151,18 +151,18 @@ fn find(
     table: Table,
     offers: Offers,
     ends: Ends,
-    held: Held,
+    kept: [u8; Table::MOST_NODES],
     node: u8,
     k: usize,
 ) -> ChoiceFound
-    requires { ⌜ (tableRead (now t) ≡ good table) × Full offers × EndsFull ends × HeldLengths held × (node < table .nodes) ⌝ }
-    ensures { λ r. ⌜ (k ≤ 4 → OnBoard (now (t .entry)) offers ends held (λ d. Answered (left (levels d node) (suc k)) (howMany d) r)) ⌝ }
+    requires { ⌜ (tableRead (now t) ≡ good table) × Full offers × EndsFull ends × (length kept ≡ limits .mostNodes) × (node < table .nodes) ⌝ }
+    ensures { λ r. ⌜ (k ≤ 4 → OnBoard (now (t .entry)) offers ends kept (λ d. Answered (left (levels d node) (suc k)) (howMany d) r)) ⌝ }
 {
     if 3 < k {
-        return pick::choose(t, table, offers, ends, held, node);
+        return pick::choose(t, table, offers, ends, kept, node);
     }
     let mut net = [0u32; pick_rules::CELLS];
-    let asked = prepare(t, table, offers, ends, held, node, k, &mut net);
+    let asked = prepare(t, table, offers, ends, kept, node, k, &mut net);
     pick::first(&net, asked, ends.count)
 }
 
@@ -172,27 +172,34 @@ fn is_left(
     table: Table,
     offers: Offers,
     ends: Ends,
-    held: Held,
+    kept: [u8; Table::MOST_NODES],
     node: u8,
     k: usize,
 ) -> bool
-    requires { ⌜ (tableRead (now t) ≡ good table) × Full offers × EndsFull ends × HeldLengths held × (node < table .nodes) ⌝ }
-    ensures { λ r. ⌜ (k ≤ 4 → OnBoard (now (t .entry)) offers ends held (λ d. Whether (levels d node) (howMany d) (suc k) r)) ⌝ }
+    requires { ⌜ (tableRead (now t) ≡ good table) × Full offers × EndsFull ends × (length kept ≡ limits .mostNodes) × (node < table .nodes) ⌝ }
+    ensures { λ r. ⌜ (k ≤ 4 → OnBoard (now (t .entry)) offers ends kept (λ d. Whether (levels d node) (howMany d) (suc k) r)) ⌝ }
 {
-    match find(t, table, offers, ends, held, node, k) {
+    match find(t, table, offers, ends, kept, node, k) {
         ChoiceFound::Nothing => false,
         ChoiceFound::Choice(_) => true,
     }
 }
 
 // The first level at which none is left, or 0.
-fn climb(t: &[u8], table: Table, offers: Offers, ends: Ends, held: Held, node: u8) -> u8
-    requires { ⌜ (tableRead (now t) ≡ good table) × Full offers × EndsFull ends × HeldLengths held × (node < table .nodes) ⌝ }
-    ensures { λ r. ⌜ OnBoard (now (t .entry)) offers ends held (λ d. FirstEmpty (levels d node) (howMany d) r) ⌝ }
+fn climb(
+    t: &[u8],
+    table: Table,
+    offers: Offers,
+    ends: Ends,
+    kept: [u8; Table::MOST_NODES],
+    node: u8,
+) -> u8
+    requires { ⌜ (tableRead (now t) ≡ good table) × Full offers × EndsFull ends × (length kept ≡ limits .mostNodes) × (node < table .nodes) ⌝ }
+    ensures { λ r. ⌜ OnBoard (now (t .entry)) offers ends kept (λ d. FirstEmpty (levels d node) (howMany d) r) ⌝ }
 {
     let mut k: usize = 0;
     while k < 5 {
-        if !is_left(t, table, offers, ends, held, node, k) {
+        if !is_left(t, table, offers, ends, kept, node, k) {
             return k as u8 + 1;
         }
         k += 1;
@@ -201,9 +208,16 @@ fn climb(t: &[u8], table: Table, offers: Offers, ends: Ends, held: Held, node: u
 }
 
 // The reason for a node, if one is named.
-fn reason(t: &[u8], table: Table, offers: Offers, ends: Ends, held: Held, node: u8) -> u8
-    requires { ⌜ (tableRead (now t) ≡ good table) × Full offers × EndsFull ends × HeldLengths held ⌝ }
-    ensures { λ r. ⌜ OnBoard (now (t .entry)) offers ends held (λ d. Reason d node r) ⌝ }
+fn reason(
+    t: &[u8],
+    table: Table,
+    offers: Offers,
+    ends: Ends,
+    kept: [u8; Table::MOST_NODES],
+    node: u8,
+) -> u8
+    requires { ⌜ (tableRead (now t) ≡ good table) × Full offers × EndsFull ends × (length kept ≡ limits .mostNodes) ⌝ }
+    ensures { λ r. ⌜ OnBoard (now (t .entry)) offers ends kept (λ d. Reason d node r) ⌝ }
 {
     if node == NO_ONE {
         return 0;
@@ -211,7 +225,7 @@ fn reason(t: &[u8], table: Table, offers: Offers, ends: Ends, held: Held, node: 
     if table.nodes <= wire::wide(node) {
         return 1;
     }
-    climb(t, table, offers, ends, held, node)
+    climb(t, table, offers, ends, kept, node)
 }
 
 // How many states the search at a level visits, k levels past the first, from 4 on pick's: what a test can hold down.
@@ -220,21 +234,21 @@ pub fn states(
     table: Table,
     offers: Offers,
     ends: Ends,
-    held: Held,
+    kept: [u8; Table::MOST_NODES],
     node: u8,
     k: usize,
 ) -> usize
-    requires { ⌜ (tableRead (now t) ≡ good table) × Full offers × EndsFull ends × HeldLengths held ⌝ }
+    requires { ⌜ (tableRead (now t) ≡ good table) × Full offers × EndsFull ends × (length kept ≡ limits .mostNodes) ⌝ }
     ensures { λ r. ⌜ (1 ≤ r) × (r < 2 ^ (ends .count + 22)) ⌝ }
 {
     if 3 < k {
-        return pick::states(t, table, offers, ends, held, node);
+        return pick::states(t, table, offers, ends, kept, node);
     }
     if table.nodes <= wire::wide(node) {
         return 1;
     }
     let mut net = [0u32; pick_rules::CELLS];
-    let asked = prepare(t, table, offers, ends, held, node, k, &mut net);
+    let asked = prepare(t, table, offers, ends, kept, node, k, &mut net);
     pick::effort(&net, asked, ends.count)
 }
 
@@ -255,13 +269,13 @@ pub fn why(
     table: Table,
     offers: Offers,
     ends: Ends,
-    held: Held,
+    kept: [u8; Table::MOST_NODES],
     node: u8,
     out: &mut [u8],
 ) -> u64
-    requires { ⌜ (tableRead (now t) ≡ good table) × Full offers × EndsFull ends × HeldLengths held ⌝ }
-    ensures { λ r. ⌜ OnBoard (now (t .entry)) offers ends held (λ d. Leaves (WhyIf (good d) node) r (now (out .entry)) (now (out .exit))) ⌝ }
+    requires { ⌜ (tableRead (now t) ≡ good table) × Full offers × EndsFull ends × (length kept ≡ limits .mostNodes) ⌝ }
+    ensures { λ r. ⌜ OnBoard (now (t .entry)) offers ends kept (λ d. Leaves (WhyIf (good d) node) r (now (out .entry)) (now (out .exit))) ⌝ }
 {
-    let byte = reason(t, table, offers, ends, held, node);
+    let byte = reason(t, table, offers, ends, kept, node);
     tell(byte, out)
 }

@@ -85,7 +85,8 @@ pub fn day() -> Event {
     event(&nodes, &edges)
 }
 
-/// Everything at its limit: 48 nodes, 64 edges, 64 offers, 20 ends, stocks of 16. An action runs that has thirty edges to finish.
+/// Everything at its limit in a table of 48 nodes and 64 edges, the most there were before larger events: 64 offers, 20 ends, stocks of 16. An action runs that
+/// has thirty edges to finish.
 pub fn limits() -> Event {
     let mut nodes = vec![(1, 255, 0, 0, "start")];
     nodes.extend([(9, 255, 0, 0, "a merge"); 11]);
@@ -108,6 +109,34 @@ pub fn limits_marking(runs: bool) -> Vec<u8> {
     }
     body.extend([1; 20]);
     body.extend([0; 33]);
+    framed(&body)
+}
+
+/// The same in the largest table: 120 nodes, 200 edges, 64 offers, 20 ends, stocks of 16. What is offered has the highest numbers. An action runs that has 169
+/// edges to finish.
+pub fn larger() -> Event {
+    let mut nodes = vec![(7, 255, 0, 16, "a full parameter"); 106];
+    nodes.extend([(2, 255, 0, 0, "the action"), (1, 255, 0, 0, "start")]); // 106, 107
+    nodes.extend([(9, 255, 0, 0, "a merge"); 11]); // 108 to 118
+    nodes.push((12, 255, 0, 0, "a final"));
+    let mut edges = vec![[CONTROL, 106, 106, 0]];
+    edges.resize(169, [CONTROL, 106, 119, 0]);
+    edges.extend([[CONTROL, 107, 108, 0]; 4]);
+    edges.extend((108..119).map(|merge| [CONTROL, merge, merge + 1, 0]));
+    edges.extend([[CONTROL, 107, 119, 0]; 16]);
+    event(&nodes, &edges)
+}
+
+/// The marking of [`larger`] in which the action runs or not.
+pub fn larger_marking(runs: bool) -> Vec<u8> {
+    let mut body = vec![1, 0];
+    for parameter in 0..106 {
+        body.push(16);
+        body.extend((0..16).flat_map(|value| [0, 0, parameter, value]));
+    }
+    body.push(u8::from(runs));
+    body.extend([0; 169]);
+    body.extend([1; 20]);
     framed(&body)
 }
 

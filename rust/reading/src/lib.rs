@@ -1,7 +1,7 @@
 //! A plain reading of the paper "Token flow, tables and markings", with wishes 1
-//! to 5 of the page "What customers ask next": "Guards that read the result", "One
+//! to 6 of the page "What customers ask next": "Guards that read the result", "One
 //! round token for all tables", "Less copying of paths", which changes no answer,
-//! "Why can't we pair?" and "Group the sheet by destination".
+//! "Why can't we pair?", "Group the sheet by destination" and "Larger events".
 //!
 //! Keshmirun runs the activity diagrams of card game tournaments. This crate
 //! says, sentence by sentence, what the paper and the wishes promise of the seven
@@ -14,8 +14,8 @@
 //! list say together. Wish 2 amends one sentence in `offers`, (c) of competing.
 //! Wish 4 adds its levels to `choices` and the operation [`why`]. Wish 5 changes one
 //! more sentence in `offers`, the order of ends, and all that goes by their numbers
-//! follows. `bytes`, `refusal` and `budget` are what these share. [`random`] makes
-//! tables, markings and whole events to compare on.
+//! follows. Wish 6 raises two numbers in `table`. `bytes`, `refusal` and `budget` are
+//! what these share. [`random`] makes tables, markings and whole events to compare on.
 
 #![forbid(unsafe_code)]
 #![warn(missing_docs)]

@@ -13,7 +13,7 @@ pub use bounds_list::bounds;
 pub use damage::{damaged, damaged_bytes};
 pub use event::{choice, guards, marking, outputs, values, Event};
 pub use parts::Parts;
-pub use tables::table;
+pub use tables::{larger_table, table};
 
 /// A generator of numbers with a fixed seed (splitmix64).
 #[derive(Debug, Clone)]

@@ -1,4 +1,5 @@
-//! The paper's heading "Table": nodes, edges and their shape.
+//! The paper's heading "Table": nodes, edges and their shape. How many there may be is
+//! as the customers' wish 6, "Larger events", raises it.
 
 use crate::bytes::after_length;
 use crate::refusal::{require_each, Refusal, EDGE_FIELD, NODE_FIELD, SHAPE, TABLE_FRAME};
@@ -38,10 +39,10 @@ pub const OBJECT: u8 = 1;
 
 /// "Owner: an action's number for pins, else 255."
 pub const NO_OWNER: u8 = 255;
-/// "node count n (1 to 48)"
-pub const MOST_NODES: usize = 48;
-/// "edge count e (0 to 64)"
-pub const MOST_EDGES: usize = 64;
+/// "node count n" is from 1 to this: "Raise nodes to 120".
+pub const MOST_NODES: usize = 120;
+/// "edge count e" is from 0 to this: "[Raise] edges to 200."
+pub const MOST_EDGES: usize = 200;
 /// "Upper: 1 to 16"
 pub const MOST_UPPER: u8 = 16;
 /// "No chain of 16 control nodes"
@@ -87,8 +88,8 @@ impl Table {
         Ok(table)
     }
 
-    /// "Then: version 1, node count n (1 to 48), edge count e (0 to 64), n nodes
-    /// of 4 bytes, e edges of 4 bytes. L = 3 + 4n + 4e."
+    /// "Then: version 1, node count n [...], edge count e [...], n nodes of 4 bytes,
+    /// e edges of 4 bytes. L = 3 + 4n + 4e." Wish 6: "Tables keep version 1".
     fn from_frame(bytes: &[u8]) -> Option<Table> {
         let body = after_length(bytes)?;
         let version = *body.first()?;

@@ -1,5 +1,6 @@
-//! The limits under the paper's "To run", each met and passed by one, and the
-//! sentences that are easily read in another way; then the same for wish 1.
+//! The limits under the paper's "To run", those of tables as wish 6 raises them, each met
+//! and passed by one, and the sentences that are easily read in another way; then the
+//! same for wish 1.
 
 mod common;
 
@@ -65,25 +66,66 @@ fn first_pick(parts: &Parts) -> Answer {
 }
 
 #[test]
-fn nodes_48_and_49() {
-    let mut parts = Parts::default();
-    assert_eq!(check(&parts.write()), refused(1, 0));
-    parts.nodes = vec![[FLOW_FINAL, 255, 0, 0]; 48];
-    assert_eq!(check(&parts.write()), Answer::Good(vec![]));
-    parts.nodes.push([FLOW_FINAL, 255, 0, 0]);
-    assert_eq!(check(&parts.write()), refused(1, 0));
+fn nodes_120_and_121() {
+    for (nodes, answer) in [
+        (0, refused(1, 0)),
+        (1, Answer::Good(vec![])),
+        (48, Answer::Good(vec![])),
+        (49, Answer::Good(vec![])),
+        (120, Answer::Good(vec![])),
+        (121, refused(1, 0)),
+        (255, refused(1, 0)),
+    ] {
+        let parts = Parts {
+            nodes: vec![[FLOW_FINAL, 255, 0, 0]; nodes],
+            edges: Vec::new(),
+        };
+        assert_eq!(check(&parts.write()), answer, "{nodes} nodes");
+    }
 }
 
 #[test]
-fn edges_64_and_65() {
+fn edges_200_and_201() {
+    for (edges, answer) in [
+        (0, Answer::Good(vec![])),
+        (64, Answer::Good(vec![])),
+        (65, Answer::Good(vec![])),
+        (200, Answer::Good(vec![])),
+        (201, refused(1, 0)),
+        (255, refused(1, 0)),
+    ] {
+        let parts = parts_with_edges(FLOW_FINAL, edges);
+        assert_eq!(check(&parts.write()), answer, "{edges} edges");
+    }
+}
+
+/// "A marking may now take up to 8,192 bytes." The longest has a running action with
+/// 200 edges to itself, and 119 stocks of 16: 4 + 119 * 65 + 1 + 200 bytes.
+#[test]
+fn the_longest_marking() {
+    let mut parts = Parts::default();
+    let action = parts.add_node(ACTION, 0);
+    for _ in 0..200 {
+        parts.add_edge(CONTROL, action, action, 0);
+    }
+    for _ in 0..119 {
+        parts.add_node(OUTGOING, 16);
+    }
+    let stocks = [&[16][..], &[9; 64]].concat().repeat(119);
+    let body = [&[1, 0, 1][..], &stocks, &[254; 200]].concat();
+    let length = (body.len() as u16).to_be_bytes();
+    let marking = [&length[..], &body].concat();
+    assert_eq!(marking.len(), 7_940);
+
+    let table = parts.write();
+    let mut after = marking.clone();
+    after[4] = 0;
+    after[5 + 119 * 65..].fill(255);
     assert_eq!(
-        check(&parts_with_edges(FLOW_FINAL, 64).write()),
-        Answer::Good(vec![])
+        finish(&table, &marking, action, &[], 7_940),
+        Answer::Good(after)
     );
-    assert_eq!(
-        check(&parts_with_edges(FLOW_FINAL, 65).write()),
-        refused(1, 0)
-    );
+    assert_eq!(finish(&table, &marking, action, &[], 7_939), refused(17, 0));
 }
 
 #[test]
@@ -751,14 +793,14 @@ fn paths_that_bounds_bar_count_for_no_size() {
 
 #[test]
 fn the_longest_list() {
-    let parts = parameter_with_edges(FLOW_FINAL, 64);
-    let open = (0..20).map(|edge| (edge, 7, 7));
-    let barred = (20..64).map(|edge| (edge, 8, 8));
-    let mut entries: Vec<(u8, u32, u32)> = open.chain(barred).collect();
+    let parts = parameter_with_edges(FLOW_FINAL, 200);
+    let barred = (0..180).map(|edge| (edge, 8, 8));
+    let open = (180..200).map(|edge| (edge, 7, 7));
+    let mut entries: Vec<(u8, u32, u32)> = barred.chain(open).collect();
     let longest = bounds(&entries);
-    assert_eq!(longest.len(), 580);
+    assert_eq!(longest.len(), 1_804);
     assert_eq!(ends_with_values(&parts, &[7], &longest), 20);
-    entries.push((64, 7, 7));
+    entries.push((200, 7, 7));
     let too_long = bounds(&entries);
     assert_eq!(sheet_with_values(&parts, &[7], &too_long), refused(18, 0));
 }

@@ -26,8 +26,9 @@ fn random_tables_are_good_and_of_every_size() {
         edges.insert(parts.edges.len());
         chains.insert(longest_chain(&parts));
     }
-    assert!(nodes.into_iter().eq(1..=48));
-    assert!(edges.contains(&0) && edges.contains(&64) && edges.len() >= 60);
+    assert!(nodes.into_iter().eq(1..=120));
+    assert!([0, 64, 65, 200].iter().all(|number| edges.contains(number)));
+    assert!(edges.len() >= 150, "{edges:?}");
     assert!(chains.into_iter().eq(0..=15));
 }
 
@@ -411,7 +412,7 @@ fn wish_2_changes_picks_and_steps() {
     });
     println!("new of {calls} picks: {new_picks}; of as many steps, by number: {new_steps:?}");
     assert_eq!(calls, 10_000);
-    assert!(new_picks >= 60);
+    assert!(new_picks >= 50);
     assert!(new_steps.values().sum::<i32>() >= 40);
     assert!(new_steps.keys().eq(&[0, 10, 11, 12]));
 }

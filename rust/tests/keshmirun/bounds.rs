@@ -6,7 +6,7 @@ use crate::common::drawn::*;
 use crate::common::points::Walk;
 use crate::common::vectors::{all, Call, Operation};
 use crate::common::{answered, limits, whys};
-use keshmirun::{bounds_list, Refusal, Terms, NO_BOUNDS, NO_NODE};
+use keshmirun::{bounds_list, Refusal, Terms, MOST_EDGES, NO_BOUNDS, NO_NODE};
 use reading::random::{choice, Event, Parts, Rng};
 use reading::Answer;
 use std::ops::RangeInclusive;
@@ -443,9 +443,11 @@ fn not_to_20_ends() {
         assert_eq!(rivals(21).edges(&only(8, &[edge])), left);
     }
     rivals(22).assert_refused(&only(8, &[4]), refused(8, 0));
-    let all_but_20: Vec<u8> = (20..64).collect();
-    assert_eq!(rivals(64).edges(&only(8, &all_but_20)).len(), 20);
-    rivals(64).assert_refused(&only(8, &all_but_20[1..]), refused(8, 0));
+    for edges in [64, 200] {
+        let all_but_20: Vec<u8> = (20..edges).collect();
+        assert_eq!(rivals(edges.into()).edges(&only(8, &all_but_20)).len(), 20);
+        rivals(edges.into()).assert_refused(&only(8, &all_but_20[1..]), refused(8, 0));
+    }
 }
 
 // ---- damaged lists
@@ -551,10 +553,10 @@ fn no_edges() {
 /// As many entries as a table has edges at most, and more than a count or a length can say: nothing is cut off that would make a good list.
 #[test]
 fn long_lists() {
-    let point = rivals(64);
+    let point = rivals(MOST_EDGES);
     let entries = |count: usize| -> Vec<(u8, RangeInclusive<u32>)> { (0..count).map(|edge| (edge as u8, u32::from(edge >= 20) * 8..=9)).collect() };
-    assert_eq!(point.edges(&bounds_list(&entries(64))).len(), 20);
-    for count in [65, 255, 256, 257, 256 + 64, 512 + 64, 7_281, 7_282, 7_283, 7_281 + 64, 65_536, 65_536 + 64] {
+    assert_eq!(point.edges(&bounds_list(&entries(MOST_EDGES))).len(), 20);
+    for count in [201, 255, 256, 257, 256 + 200, 512 + 200, 7_281, 7_282, 7_283, 7_281 + 200, 65_536, 65_536 + 200] {
         let list = bounds_list(&entries(count));
         assert_eq!(list.len(), 4 + 9 * count);
         point.assert_refused(&list, BAD_LIST);
@@ -694,7 +696,7 @@ fn all_values_and_none() {
         parts.edges.iter_mut().for_each(|edge| edge[3] = 1);
         let table = parts.write();
         let guards: Vec<u8> = parts.edges.iter().map(|_| u8::from(rng.percent(90))).collect();
-        let (node, ends) = (rng.below(48) as u8, rng.below(8));
+        let (node, ends) = (rng.below(parts.nodes.len()) as u8, rng.below(8));
         let choice = choice(&mut rng, ends);
         let without = three(&table, &marking, Terms::new(&guards), node, &choice);
         let whole = all_values(&table);

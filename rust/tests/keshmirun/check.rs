@@ -1,7 +1,7 @@
 //! `check` against the plain reading of the paper, on good, bad and damaged tables with fixed seeds.
 
 use keshmirun::Refusal;
-use reading::random::{damaged, table, Parts, Rng};
+use reading::random::{damaged, larger_table, table, Parts, Rng};
 use reading::Answer;
 
 /// Calls on a copy that stands amid other bytes, and sees that none of them changed.
@@ -65,6 +65,22 @@ fn damaged_tables() {
         damaged(rng, &good)
     });
     assert!(seen.iter().all(|&count| count > 1_000), "{seen:?}");
+}
+
+/// Good and damaged ones.
+#[test]
+fn larger_tables() {
+    let mut good = Vec::new();
+    let mut turn = 0;
+    let seen = compare(4, 8_000, |rng| {
+        turn += 1;
+        if turn % 4 == 1 {
+            good = larger_table(rng);
+            return good.clone();
+        }
+        damaged(rng, &good)
+    });
+    assert!(seen.iter().all(|&count| count > 200), "{seen:?}");
 }
 
 #[test]

@@ -9,7 +9,7 @@ use reading::random::{damaged, damaged_bytes, outputs, Event, Rng};
 fn action(rng: &mut Rng, event: &Event) -> u8 {
     match rng.one_of(&event.running()) {
         Some(action) if rng.percent(85) => action,
-        _ => rng.below(64) as u8,
+        _ => rng.below(usize::from(event.table[3]) + 2) as u8,
     }
 }
 
@@ -48,6 +48,14 @@ fn compare(rng: &mut Rng, seen: &mut Seen, event: &Event) {
 fn whole_events() {
     let mut walk = Walk::default();
     seen(14, 10_000, |rng| walk.next(rng)).assert_each(100, &[0, 1, 2, 3, 4, 5, 6, 14, 15, 16, 17]);
+}
+
+#[test]
+fn larger_events() {
+    let mut walk = Walk::larger();
+    let seen = seen(15, 2_000, |rng| walk.next(rng));
+    seen.assert_each(20, &[0, 1, 2, 3, 4, 5, 6, 14, 15, 16, 17]);
+    seen.assert_place_over(48, &[2, 3, 4]);
 }
 
 #[test]

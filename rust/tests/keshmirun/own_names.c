@@ -12,7 +12,7 @@ static const uint8_t choice[] = {0};
 #define HOLDS(test) if (!(test)) return __LINE__
 
 int main(void) {
-    uint8_t marking[6], next[6], after[6], ends[KESHMIRUN_ROOM], picked[KESHMIRUN_MOST_ENDS];
+    uint8_t marking[6], next[6], after[6], ends[KESHMIRUN_ROOM_SHEET], picked[KESHMIRUN_ROOM_CHOICE];
     HOLDS(keshmirun_check(table, sizeof table) == 0);
     HOLDS(keshmirun_start(table, sizeof table, guards, 0, marking, sizeof marking) == 6 && marking[5] == 1);
     HOLDS(keshmirun_sheet(table, sizeof table, marking, 6, TERMS, ends, sizeof ends) == 13 && ends[3] == 1);

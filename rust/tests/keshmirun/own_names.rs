@@ -1,6 +1,6 @@
 //! This program has functions `check`, `start`, `step` .. of its own under their plain names, beside the crate's: each call reaches the one that is meant.
 
-use keshmirun::{Reason, Terms};
+use keshmirun::{Reason, Room, Terms};
 
 #[no_mangle]
 pub extern "C" fn check(value: u64) -> u64 {
@@ -41,7 +41,7 @@ pub extern "C" fn why() -> u64 {
 fn each_has_its_own() {
     // one initial node, one action, and the control edge between them
     let table = [0, 15, 1, 2, 1, 1, 255, 0, 0, 2, 255, 0, 0, 0, 0, 1, 0];
-    let mut out = [0; 4096];
+    let mut out = [0; Room::MARKING];
     assert_eq!(keshmirun::check(&table), Ok(()));
     assert_eq!(keshmirun::start(&table, &[], &mut out), Ok(6));
     let marking = [0, 4, 1, 0, 0, 1];

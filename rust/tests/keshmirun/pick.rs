@@ -31,6 +31,16 @@ fn from_anywhere() {
 }
 
 #[test]
+fn larger_events() {
+    let mut walk = Walk::larger();
+    let tally = picks::tally(44, 6_000, |rng| walk.next(rng));
+    tally.seen.assert_each(5, &[0, 1, 2, 3, 4, 5, 6, 7, 8, 13, 17]);
+    tally.seen.assert_each(20, &[18]);
+    tally.seen.assert_bounded(200);
+    tally.seen.assert_place_over(110, &[13]);
+}
+
+#[test]
 fn near_the_sizes() {
     let tally = picks::tally(43, 10_000, limits::event);
     tally.seen.assert_each(200, &[0, 8, 13, 17]);

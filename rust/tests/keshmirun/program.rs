@@ -1,8 +1,9 @@
 //! The program `sheet`, run as the gate runs it, on inputs of every kind: good ones, none, short and cut ones, longer ones than it reads, and ones that
-//! each row refuses. It reads the first 8,192 bytes at most, and all that it prints is the paper's text of what the plain reading answers for their parts,
+//! each row refuses. It reads the first 16,384 bytes at most, and all that it prints is the paper's text of what the plain reading answers for their parts,
 //! without bounds.
 
 use crate::common::limits;
+use crate::common::longest::Longest;
 use crate::common::points::{varied, Walk, BUDGET};
 use reading::random::{Event, Rng};
 use reading::{pick_within, sheet_within, Answer, NO_BOUNDS, NO_NODE};
@@ -14,8 +15,8 @@ use std::process::{Command, Stdio};
 use std::thread;
 use std::time::Duration;
 
-/// "It reads the first 8,192 bytes at most".
-const MOST_INPUT: usize = 8_192;
+/// "It reads the first" bytes, so many "at most", as wish 6 has it.
+const MOST_INPUT: usize = 16_384;
 
 fn repository() -> PathBuf {
     Path::new(env!("CARGO_MANIFEST_DIR")).join("..")
@@ -39,7 +40,7 @@ fn program(input: Stdio) -> Command {
     program
 }
 
-/// What the program prints for these bytes in a file, of which it reads the first 8,192 and no more.
+/// What the program prints for these bytes in a file, of which it reads the first 16,384 and no more.
 fn printed(input: &[u8]) -> String {
     let path = Path::new(env!("CARGO_TARGET_TMPDIR")).join(format!("sheet-{:?}", thread::current().id()));
     write(&path, input).expect("a file for the input");
@@ -175,6 +176,23 @@ fn longer_than_what_is_read() {
         marking[53..55].copy_from_slice(&[255, 255]);
         marking.resize(length, 0);
         assert_eq!(compared(&marking), Some(5), "a marking, {length} bytes");
+    }
+}
+
+/// The largest table with a marking of nearly 8,192 bytes and 200 guards: more than a program of before read. Cut there, it has no marking; and what comes
+/// behind the guards, up to what is read and past it, belongs to them.
+#[test]
+fn a_larger_event() {
+    let Longest { table, marking, guards, .. } = Longest::new();
+    let whole = [table, marking, guards].concat();
+    assert_eq!(whole.len(), 9_420);
+    let text = format!("ends 1\n0 199 119 {} 199\npick 0\n", u32::from_be_bytes([118, 0x5e, 0, !118]));
+    assert_eq!(printed(&whole), text);
+    assert_eq!(expected(&whole), Some((text, 0)));
+    for (length, number) in [(8_192, 5), (1_285 + 7_934, 5), (9_419, 7), (9_421, 7), (MOST_INPUT, 7), (MOST_INPUT + 1, 7)] {
+        let mut input = whole.clone();
+        input.resize(length, 1);
+        assert_eq!(compared(&input), Some(number), "{length} bytes");
     }
 }
 

@@ -3,7 +3,7 @@
 
 use crate::common::points::{varied, Walk, BUDGET};
 use crate::common::{called, limits, room, within, Seen};
-use keshmirun::{Refusal, Terms};
+use keshmirun::{Refusal, Room, Terms};
 use reading::random::{Event, Parts, Rng};
 
 /// So many calls, four at each point.
@@ -51,6 +51,15 @@ fn from_anywhere() {
 }
 
 #[test]
+fn larger_events() {
+    let mut walk = Walk::larger();
+    let seen = seen(25, 6_000, |rng| walk.next(rng));
+    seen.assert_each(20, &[0, 1, 2, 3, 4, 5, 6, 7, 8, 17]);
+    seen.assert_each(150, &[18]);
+    seen.assert_bounded(300);
+}
+
+#[test]
 fn near_the_sizes() {
     let seen = seen(23, 15_000, limits::event);
     seen.assert_each(1_000, &[0, 8, 17, 18]);
@@ -73,5 +82,5 @@ fn sizes_met_and_passed_by_one() {
 /// The sheet with every source full, every guard 1 and no bounds.
 fn first_sheet(rng: &mut Rng, parts: &Parts) -> Result<usize, Refusal> {
     let marking = limits::full(rng, parts);
-    keshmirun::sheet(&parts.write(), &marking, Terms::new(&vec![1; parts.edges.len()]), &mut [0; 4096])
+    keshmirun::sheet(&parts.write(), &marking, Terms::new(&vec![1; parts.edges.len()]), &mut [0; Room::SHEET])
 }

@@ -4,8 +4,8 @@
 
 #include <string.h>
 
-#if KESHMIRUN_VERSION != 4
-#error "these are the calls of version 4"
+#if KESHMIRUN_VERSION != 5
+#error "these are the calls of version 5"
 #endif
 
 static const uint8_t table[] = {0, 0x33, 1, 7, 5, 1, 255, 0, 0, 6, 255, 0, 4, 8, 255, 0, 0, 11, 255, 0, 0, 3, 5, 1, 1, 2, 255, 0, 0, 5, 255, 0, 2,
@@ -50,10 +50,10 @@ int main(void) {
     HOLDS(refused(keshmirun_check(table, sizeof table - 1), 1, 0));
     HOLDS(wrote(keshmirun_start(table, sizeof table, values, sizeof values, out, sizeof out), started, sizeof started));
     HOLDS(wrote(keshmirun_sheet(EVENT(started), UNDER(keshmirun_no_bounds), out, sizeof out), ends, sizeof ends));
-    HOLDS(wrote(keshmirun_pick(EVENT(started), UNDER(keshmirun_no_bounds), 5, out, KESHMIRUN_MOST_ENDS), first_end, sizeof first_end));
-    HOLDS(wrote(keshmirun_pick(EVENT(started), UNDER(keshmirun_no_bounds), 6, out, KESHMIRUN_MOST_ENDS), second_end, sizeof second_end));
-    HOLDS(refused(keshmirun_pick(EVENT(started), UNDER(keshmirun_no_bounds), 2, out, KESHMIRUN_MOST_ENDS), 13, 2));
-    HOLDS(wrote(keshmirun_pick(EVENT(started), UNDER(keshmirun_no_bounds), KESHMIRUN_NO_NODE, out, KESHMIRUN_MOST_ENDS), first_end, sizeof first_end));
+    HOLDS(wrote(keshmirun_pick(EVENT(started), UNDER(keshmirun_no_bounds), 5, out, KESHMIRUN_ROOM_CHOICE), first_end, sizeof first_end));
+    HOLDS(wrote(keshmirun_pick(EVENT(started), UNDER(keshmirun_no_bounds), 6, out, KESHMIRUN_ROOM_CHOICE), second_end, sizeof second_end));
+    HOLDS(refused(keshmirun_pick(EVENT(started), UNDER(keshmirun_no_bounds), 2, out, KESHMIRUN_ROOM_CHOICE), 13, 2));
+    HOLDS(wrote(keshmirun_pick(EVENT(started), UNDER(keshmirun_no_bounds), KESHMIRUN_NO_NODE, out, KESHMIRUN_ROOM_CHOICE), first_end, sizeof first_end));
     HOLDS(reason(keshmirun_why(EVENT(started), UNDER(keshmirun_no_bounds), 5, out, sizeof out), KESHMIRUN_WHY_ACCEPTABLE));
     HOLDS(reason(keshmirun_why(EVENT(started), UNDER(keshmirun_no_bounds), 2, out, 1), KESHMIRUN_WHY_NO_END));
     HOLDS(reason(keshmirun_why(EVENT(full), UNDER(keshmirun_no_bounds), 6, out, 1), KESHMIRUN_WHY_OWN_DESTINATION));
@@ -61,13 +61,13 @@ int main(void) {
     HOLDS(refused(keshmirun_why(EVENT(started), UNDER(keshmirun_no_bounds), 5, out, 0), 17, 0));
     HOLDS(wrote(keshmirun_step(EVENT(started), UNDER(keshmirun_no_bounds), first_end, sizeof first_end, out, sizeof out), stepped, sizeof stepped));
     HOLDS(wrote(keshmirun_sheet(EVENT(started), UNDER(from_8_to_9), out, sizeof out), ends_left, sizeof ends_left));
-    HOLDS(wrote(keshmirun_pick(EVENT(started), UNDER(from_8_to_9), 6, out, KESHMIRUN_MOST_ENDS), first_end, sizeof first_end));
-    HOLDS(refused(keshmirun_pick(EVENT(started), UNDER(from_8_to_9), 5, out, KESHMIRUN_MOST_ENDS), 13, 5));
+    HOLDS(wrote(keshmirun_pick(EVENT(started), UNDER(from_8_to_9), 6, out, KESHMIRUN_ROOM_CHOICE), first_end, sizeof first_end));
+    HOLDS(refused(keshmirun_pick(EVENT(started), UNDER(from_8_to_9), 5, out, KESHMIRUN_ROOM_CHOICE), 13, 5));
     HOLDS(reason(keshmirun_why(EVENT(started), UNDER(from_8_to_9), 5, out, 1), KESHMIRUN_WHY_NO_END));
     HOLDS(wrote(keshmirun_step(EVENT(started), UNDER(from_8_to_9), first_end, sizeof first_end, out, sizeof out), stepped_to_buffer, sizeof stepped_to_buffer));
     HOLDS(refused(keshmirun_step(EVENT(started), UNDER(from_8_to_9), second_end, sizeof second_end, out, sizeof out), 9, 0));
     HOLDS(refused(keshmirun_sheet(EVENT(started), UNDER(on_a_control_edge), out, sizeof out), 18, 0));
-    HOLDS(refused(keshmirun_pick(EVENT(started), guards, sizeof guards, from_8_to_9, sizeof from_8_to_9 - 1, 5, out, KESHMIRUN_MOST_ENDS), 18, 0));
+    HOLDS(refused(keshmirun_pick(EVENT(started), guards, sizeof guards, from_8_to_9, sizeof from_8_to_9 - 1, 5, out, KESHMIRUN_ROOM_CHOICE), 18, 0));
     HOLDS(refused(keshmirun_why(EVENT(started), UNDER(on_a_control_edge), 5, out, 1), 18, 0));
     HOLDS(refused(keshmirun_step(EVENT(started), guards, sizeof guards, keshmirun_no_bounds, 0, first_end, sizeof first_end, out, sizeof out), 18, 0));
     HOLDS(wrote(keshmirun_finish(EVENT(stepped), 5, values, 0, out, sizeof out), finished, sizeof finished));

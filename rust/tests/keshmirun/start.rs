@@ -2,14 +2,14 @@
 //! one short.
 
 use crate::common::{called, room, within, Seen};
-use reading::random::{damaged, table, values, Rng};
+use reading::random::{damaged, larger_table, table, values, Rng};
 
 /// Calls on so many random tables, four on each, with one table in `times` damaged.
-fn seen(seed: u64, tables: usize, times: usize) -> Seen {
+fn seen(seed: u64, tables: usize, times: usize, drawn: impl Fn(&mut Rng) -> Vec<u8>) -> Seen {
     let mut rng = Rng::new(seed);
     let mut seen = Seen::default();
     for _ in 0..tables {
-        let good = table(&mut rng);
+        let good = drawn(&mut rng);
         for _ in 0..4 {
             let lists = values(&mut rng, &good);
             let table = if rng.below(times) == 0 { damaged(&mut rng, &good) } else { good.clone() };
@@ -25,10 +25,18 @@ fn seen(seed: u64, tables: usize, times: usize) -> Seen {
 
 #[test]
 fn good_tables() {
-    seen(11, 12_500, usize::MAX).assert_each(100, &[0, 15, 16, 17]);
+    seen(11, 12_500, usize::MAX, table).assert_each(100, &[0, 15, 16, 17]);
 }
 
 #[test]
 fn some_damaged() {
-    seen(13, 12_500, 3).assert_each(100, &[0, 1, 2, 3, 4, 15, 16, 17]);
+    seen(13, 12_500, 3, table).assert_each(100, &[0, 1, 2, 3, 4, 15, 16, 17]);
+}
+
+#[test]
+fn larger_tables() {
+    let seen = seen(15, 1_500, 6, larger_table);
+    seen.assert_each(100, &[0, 1, 2, 3, 4, 15, 17]);
+    seen.assert_each(5, &[16]);
+    seen.assert_place_over(64, &[2, 3, 4]);
 }

@@ -29,6 +29,17 @@ fn from_anywhere() {
 }
 
 #[test]
+fn larger_events() {
+    let mut walk = Walk::larger();
+    let seen = steps::seen(34, 10_000, |rng| walk.next(rng));
+    seen.assert_each(5, &[0, 1, 2, 3, 4, 5, 6, 7, 8, 17]);
+    seen.assert_each(20, &[18]);
+    seen.assert_each(100, &[9, 10, 11, 12]);
+    seen.assert_bounded(200);
+    seen.assert_place_over(100, &[11, 12]);
+}
+
+#[test]
 fn near_the_sizes() {
     let seen = steps::seen(33, 24_000, limits::event);
     seen.assert_each(300, &[0, 8, 9, 10, 11, 17]);

@@ -469,8 +469,18 @@ fn from_anywhere() {
     tally.seen.assert_each(250, &[18]);
     whys::assert_least(tally.reasons, [1_700, 15_000, 900, 7, 40, 30]);
     whys::assert_least(tally.of_pins, [180, 1_000, 350, 4, 14, 9]);
-    whys::assert_least(tally.bounded, [45, 700, 50, 0, 15, 2]);
+    whys::assert_least(tally.bounded, [45, 700, 50, 0, 8, 2]);
     assert!(tally.read >= 15_000, "{tally:?}");
+}
+
+#[test]
+fn larger_events() {
+    let mut walk = Walk::larger();
+    let tally = whys::tally(86, 15_000, |rng| walk.next(rng));
+    tally.seen.assert_each(3, &[0, 1, 2, 3, 4, 5, 6, 7, 8, 17]);
+    tally.seen.assert_each(10, &[18]);
+    whys::assert_least(tally.reasons, [300, 5_000, 200, 0, 5, 5]);
+    assert!(tally.read >= 5_000, "{tally:?}");
 }
 
 /// Nothing but finals is behind these events, so forks alone are in the way.

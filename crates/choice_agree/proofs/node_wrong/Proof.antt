@@ -15,11 +15,11 @@ use Rattle.choice_agree.proofs.node_wrong.Statement.{statement}
 use Rattle.choice_agree.proofs.node_wrong.Tie as tie
 
 -- where it was passed over, the node doesn't start or doesn't run
-calm : (c : tie.Joined1) → let a = c .before .before .before .before .before .before .before .args in isMarked (a .starting .now) (a .i) && not (eqb (at (a .runs .now) (a .i)) 0) ≡ false
+calm : (c : tie.Joined1) → let a = c .before .before .before .before .before .before .args in isMarked (a .starting .now) (a .i) && not (eqb (at (a .kept .now) (a .i)) 0) ≡ false
 calm c =
-    let a = c .before .before .before .before .before .before .before .args in
+    let a = c .before .before .before .before .before .before .args in
     let s = isMarked (a .starting .now) (a .i) in
-    let r = not (eqb (at (a .runs .now) (a .i)) 0) in
+    let r = not (eqb (at (a .kept .now) (a .i)) 0) in
     ⊎-elim (λ w. ap (λ (b : Bool). s && b) (w .2 .left) ∙ and-never s) (λ w. ap (λ (b : Bool). b && r) (sym (c .before .is-marked .ensures) ∙ w .left)) (c .if1 .came)
 
 -- ---- places, each from a later one
@@ -27,16 +27,13 @@ abbrev start-from-shared-slice-known2 : tie.After-shared-slice-known2 → tie.St
 start-from-shared-slice-known2 c = c .before .before
 
 abbrev start-from-then2 : tie.Then2 → tie.Start
-start-from-then2 c = start-from-shared-slice-known2 (c .before .before .before .before .before .before .before)
-
-abbrev start-from-shared-slice-known3 : tie.After-shared-slice-known3 → tie.Start
-start-from-shared-slice-known3 c = c .before .before .before
+start-from-then2 c = start-from-shared-slice-known2 (c .before .before .before .before .before .before)
 
 abbrev start-from-then3 : tie.Then3 → tie.Start
-start-from-then3 c = start-from-shared-slice-known3 (c .before .before .before .before .before .before .before)
+start-from-then3 c = start-from-shared-slice-known2 (c .before .before .before .before .before .before .before)
 
 abbrev start-from-kind : tie.After-kind → tie.Start
-start-from-kind c = start-from-shared-slice-known2 (c .before .before .before .before .before .before)
+start-from-kind c = start-from-shared-slice-known2 (c .before .before .before .before .before)
 
 abbrev start-from-taken-of : tie.After-taken-of → tie.Start
 start-from-taken-of c = start-from-kind (c .before .before .before .before .before .before .before)
@@ -55,7 +52,7 @@ shared-slice-read-if2 c = search needs
 
 returns : tie.Need-returns
 returns c = let a = start-from-then2 c .args in
-    sym (node-runs (a .t .now) (isMarked (a .starting .now)) (a .c) (a .by-target .now) (a .i) (a .runs .now) (a .stock .now) (sym (c .before .before .before .is-marked .ensures) ∙ c .before .before .if1 .taken) (c .if2 .taken))
+    sym (node-runs (a .t .now) (isMarked (a .starting .now)) (a .c) (a .by-target .now) (a .i) (a .kept .now) (a .kept .now) (sym (c .before .before .before .is-marked .ensures) ∙ c .before .before .if1 .taken) (c .if2 .taken))
 
 kind-requires : tie.Need-kind-requires
 kind-requires c κs = search needs
@@ -66,7 +63,7 @@ is-store-requires c κs = search needs
 returns-2 : tie.Need-returns-2
 returns-2 c = let a = start-from-then3 c .args in
     let k = c .before .is-store .ensures ∙ ap (λ (x : ℕ). isBuffer x || isOutgoing x) (c .before .before .kind .ensures .0) in
-    sym (node-other (a .t .now) (isMarked (a .starting .now)) (a .c) (a .by-target .now) (a .i) (a .runs .now) (a .stock .now) (calm (c .before .before .before)) (sym k ∙ not-true _ (c .if3 .taken)))
+    sym (node-other (a .t .now) (isMarked (a .starting .now)) (a .c) (a .by-target .now) (a .i) (a .kept .now) (a .kept .now) (calm (c .before .before .before)) (sym k ∙ not-true _ (c .if3 .taken)))
 
 upper-requires : tie.Need-upper-requires
 upper-requires c κs = search needs
@@ -93,7 +90,7 @@ returns-3 : tie.Need-returns-3
 returns-3 c = let a = start-from-taken-of c .args in
     let k = c .before .before .before .before .before .before .is-store .ensures ∙ ap (λ (x : ℕ). isBuffer x || isOutgoing x) (c .before .before .before .before .before .before .before .kind .ensures .0) in
     ap₂ (λ (x y : ℕ). ltb x y) (c .before .before .before .before .upper .ensures .0) (ap₂ (λ (x y : ℕ). x + y) (c .before .before .wide .ensures .0) (c .taken-of .ensures .0))
-    ∙ sym (node-room (a .t .now) (isMarked (a .starting .now)) (a .c) (a .by-target .now) (a .i) (a .runs .now) (a .stock .now) (calm (joined1-from-taken-of c)) (sym k ∙ not-false _ (c .before .before .before .before .before .if3 .left)))
+    ∙ sym (node-room (a .t .now) (isMarked (a .starting .now)) (a .c) (a .by-target .now) (a .i) (a .kept .now) (a .kept .now) (calm (joined1-from-taken-of c)) (sym k ∙ not-false _ (c .before .before .before .before .before .if3 .left)))
 
 pub node-wrong-spec : {M : Type 1} → statement M
 node-wrong-spec =

@@ -61,10 +61,10 @@ returns c = let m = c .before .before .before in
     let two = pins m .mark-pins .ensures e one in
     let three = m .mark-nodes .ensures (λ j. e j || i j) two in
     λ edge target home n me mt starts.
-    let q : ℕ → Bool = λ i. not (fits t edge target home (a .held .runs) (a .held .kept) n (a .c) i) in
-    c .lowest-marked .ensures q (unfit-all edge target home (a .held .runs) (a .held .kept) n (a .c) (p .0) (p .1) (p .2) me mt starts three)
+    let q : ℕ → Bool = λ i. not (fits t edge target home (a .kept) (a .kept) n (a .c) i) in
+    c .lowest-marked .ensures q (unfit-all edge target home (a .kept) (a .kept) n (a .c) (p .0) (p .1) (p .2) me mt starts three)
     ∙ ap (lowest q) (p .0 .nodes-read)
-    ∙ homes-marked t edge target home (a .held .runs) (a .held .kept) n (a .c)
+    ∙ homes-marked t edge target home (a .kept) (a .kept) n (a .c)
 
 pub unfit-by-masks-spec : {M : Type 1} → statement M
 unfit-by-masks-spec =

@@ -1,34 +1,41 @@
 -- `idle` empties the action's input pins, one after the other. Assumes nothing.
-use mathlib.Core.Path.{_≡_}
-use Rattle.paper.specs.Table.{nodes}
+use mathlib.Core.Path.{_≡_, _∙_}
 use mathlib.Core.Logic.{⊎-elim}
-use Prim.Native.Nat.{_≤_, _-_}
+use Prim.Native.Nat.{_-_, _≤_, _<_}
 use native.Mathlib.Omega.{arith}
-use Rattle.marking_held.proofs.HeldLaws.{PinsEmptied, pins-begin, pins-more, pins-skip, idle-held}
+use lib.ListN.{length, set, length-set}
+use Rattle.paper.specs.Table.{nodes}
+use Rattle.marking_held.proofs.HeldLaws.{PinsEmptied, pins-none, pins-more, pins-skip, idle-held}
 use borrow.Author.Needs.{needs}
 use Rattle.marking_held.proofs.idle.Statement.{statement}
 use Rattle.marking_held.proofs.idle.Tie as tie
 
 abbrev Inv-loop : tie.InvT-loop
-Inv-loop t table a held₀ n i₀ held i = (i ≤ n) × PinsEmptied t a i held₀ held
+Inv-loop t table a kept₀ n i₀ kept i = (i ≤ n) × PinsEmptied t a kept₀ kept i
 
 abbrev μ-loop : tie.MeasureT-loop
-μ-loop t table a held₀ n i₀ held i = n - i
+μ-loop t table a kept₀ n i₀ kept i = n - i
 
-element-write-held : tie.Need-element-write-held Inv-loop μ-loop
-element-write-held c = search needs
+-- ---- the way back to the entry, and that the slice is long enough
+abbrev entry : tie.At-loop Inv-loop μ-loop → tie.Start Inv-loop μ-loop
+entry c = c .before .before .before
+
+inside : (c : tie.In-loop Inv-loop μ-loop) → c .before .loop .i < length (c .before .loop .kept)
+inside c =
+    let b = entry (c .before) in
+    omega (arith, c .before .loop .inv .1 .long, length-set (b .args .kept .now) (b .args .a) 0, b .pre .2, c .loop-test .taken)
+
+slice-write-kept : tie.Need-slice-write-kept Inv-loop μ-loop
+slice-write-kept c = search needs
 
 loop-holds : tie.Need-loop-holds Inv-loop μ-loop
-loop-holds c = let s = c .before in (omega arith, pins-begin (s .args .t .now) (s .args .a) (s .args .t4) (s .pre .2))
+loop-holds c = let a = c .before .before .args in (omega arith, pins-none (a .t .now) (a .a) (set (a .kept .now) (a .a) 0))
 
 is-listed-requires : tie.Need-is-listed-requires Inv-loop μ-loop
 is-listed-requires c κs = search needs
 
-element-write-held-2 : tie.Need-element-write-held-2 Inv-loop μ-loop
-element-write-held-2 c = search needs
-
-element-write-held-3 : tie.Need-element-write-held-3 Inv-loop μ-loop
-element-write-held-3 c = search needs
+slice-write-kept-2 : tie.Need-slice-write-kept-2 Inv-loop μ-loop
+slice-write-kept-2 c = inside (c .before .before)
 
 add-i : tie.Need-add-i Inv-loop μ-loop
 add-i c = search needs
@@ -37,21 +44,26 @@ loop-less : tie.Need-loop-less Inv-loop μ-loop
 loop-less c = search needs
 
 loop-again : tie.Need-loop-again Inv-loop μ-loop
-loop-again c = let s = c .before .before .before .loop in
-    let a = c .before .before .before .before .before .args in (
+loop-again c = let l = c .before .before in
+    let a = entry (l .before) .args in
+    let pins = l .before .loop .inv .1 in
+    let q = c .before .is-listed .ensures in (
       omega arith,
       ⊎-elim
-          (λ w. rw (w .1) (pins-more (s .held) (s .i) (omega arith) (s .inv .1) (c .before .is-listed .ensures) (w .0 .taken)))
-          (λ w. rw (w .1) (pins-skip (s .held) (s .i) (omega arith) (s .inv .1) (c .before .is-listed .ensures) (w .0 .left)))
+          (λ w. rw (w .1) (pins-more (a .t .now) (a .a) pins q (inside l) (w .0 .taken)))
+          (λ w. rw (w .1) (pins-skip (a .t .now) (a .a) pins q (w .0 .left)))
           (c .if1 .came),
     )
 
+same-length : tie.Need-same-length Inv-loop μ-loop
+same-length c = let a = entry (c .before) .args in c .before .loop .inv .1 .long ∙ length-set (a .kept .now) (a .a) 0
+
 returns : tie.Need-returns Inv-loop μ-loop
 returns c = let s = c .before .loop in
-    let b = c .before .before .before in
-    let e : s .i ≡ nodes (b .args .t .now) = omega (arith, b .pre .0 .nodes-read) in
-    let p = rw e at (s .inv .1) in
-    (p .lengths, idle-held (b .args .t .now) (b .args .a) (b .args .t4) (s .held) (omega arith) (b .pre .2) p)
+    let b = entry (c .before) in
+    let a = b .args in
+    let e : s .i ≡ nodes (a .t .now) = omega (arith, b .pre .0 .nodes-read) in
+    idle-held (a .t .now) (a .a) (a .kept .now) (s .kept) (omega arith) (rw e at (s .inv .1))
 
 pub idle-spec : {M : Type 1} → statement M
 idle-spec =
@@ -59,12 +71,12 @@ idle-spec =
     (tie.spec
     Inv-loop
     μ-loop
-    element-write-held
+    slice-write-kept
     loop-holds
     is-listed-requires
-    element-write-held-2
-    element-write-held-3
+    slice-write-kept-2
     add-i
     loop-less
     loop-again
+    same-length
     returns)

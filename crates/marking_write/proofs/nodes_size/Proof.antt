@@ -17,6 +17,13 @@ Inv-loop t table kept more n taken₀ i₀ taken i = (i ≤ n) × (taken ≡ tot
 abbrev μ-loop : tie.MeasureT-loop
 μ-loop t table kept more n taken₀ i₀ taken i = n - i
 
+-- ---- the pass, from the place where its node's size is known, and the way back to the entry
+abbrev turn : tie.After-node-size Inv-loop μ-loop → tie.At-loop Inv-loop μ-loop
+turn c = c .before .before .before .before .before .before .before
+
+abbrev entry : tie.At-loop Inv-loop μ-loop → tie.Start Inv-loop μ-loop
+entry c = c .before .before .before .before
+
 loop-holds : tie.Need-loop-holds Inv-loop μ-loop
 unfolding total
 loop-holds c = search needs
@@ -24,14 +31,14 @@ loop-holds c = search needs
 kind-requires : tie.Need-kind-requires Inv-loop μ-loop
 kind-requires c κs = search needs
 
-array-read-wide : tie.Need-array-read-wide Inv-loop μ-loop
-array-read-wide c = search needs
+shared-slice-read-wide : tie.Need-shared-slice-read-wide Inv-loop μ-loop
+shared-slice-read-wide c = search needs
 
 wide-requires : tie.Need-wide-requires Inv-loop μ-loop
 wide-requires c κs = search needs
 
-array-read-wide-2 : tie.Need-array-read-wide-2 Inv-loop μ-loop
-array-read-wide-2 c = search needs
+shared-slice-read-wide-2 : tie.Need-shared-slice-read-wide-2 Inv-loop μ-loop
+shared-slice-read-wide-2 c = search needs
 
 wide-requires-2 : tie.Need-wide-requires-2 Inv-loop μ-loop
 wide-requires-2 c κs = search needs
@@ -52,14 +59,14 @@ loop-less : tie.Need-loop-less Inv-loop μ-loop
 loop-less c = search needs
 
 loop-again : tie.Need-loop-again Inv-loop μ-loop
-loop-again c = let a = c .before .before .before .before .before .before .before .args in
-    let l = c .before .before .before .before .before .loop in
-    let e = size-same (a .t .now) (a .t3) (a .t4) (l .i) (c .before .before .before .kind .ensures .0) (c .before .before .wide .ensures .0)
-    (c .before .wide2 .ensures .0) (c .node-size .ensures .0) in
-    (omega arith, omega (arith, e, total-more (nodeSize (a .t .now) (a .t3) (a .t4)) (l .i)), omega (arith, c .node-size .ensures .1))
+loop-again c = let a = entry (turn c) .args in
+    let l = turn c .loop in
+    let e = size-same (a .t .now) (a .kept .now) (a .more .now) (l .i) (c .before .before .before .before .before .kind .ensures .0)
+    (c .before .before .before .wide .ensures .0) (c .before .wide2 .ensures .0) (c .node-size .ensures .0) in
+    (omega arith, omega (arith, e, total-more (nodeSize (a .t .now) (a .kept .now) (a .more .now)) (l .i)), omega (arith, c .node-size .ensures .1))
 
 returns : tie.Need-returns Inv-loop μ-loop
-returns c = let a = c .before .before .before .args in
+returns c = let a = entry (c .before) .args in
     let l = c .before .loop in
     let e : l .i ≡ nodes (a .t .now) = omega arith in
     (rw (← e) (l .inv .1), omega arith)
@@ -72,9 +79,9 @@ nodes-size-spec =
     μ-loop
     loop-holds
     kind-requires
-    array-read-wide
+    shared-slice-read-wide
     wide-requires
-    array-read-wide-2
+    shared-slice-read-wide-2
     wide-requires-2
     add-node-size
     node-size-requires

@@ -6,7 +6,7 @@ use Rattle.marking_write.proofs.size.Statement.{statement}
 use Rattle.marking_write.proofs.size.Tie as tie
 
 nodes-size-requires : tie.Need-nodes-size-requires
-nodes-size-requires c κs = let b = c .before .before .before in read-spans (b .args .t .now) (b .pre)
+nodes-size-requires c κs = let b = c .before .before .before in (read-spans (b .args .t .now) (b .pre .0), b .pre .1, b .pre .2)
 
 add-result : tie.Need-add-result
 add-result c = search needs

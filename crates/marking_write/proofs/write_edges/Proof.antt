@@ -1,5 +1,5 @@
 -- `write_edges` stores the edges' counts as one run. The invariant: those passed are stored, and the next starts where they end. Assumes nothing.
-use Rattle.table.proofs.Reading.{read-spans, most-edges}
+use Rattle.table.proofs.Reading.{read-spans}
 use mathlib.Core.Path.{_≡_, refl}
 use Prim.Native.Nat.{_+_, _-_, _≤_}
 use native.Mathlib.Omega.{arith}
@@ -16,31 +16,28 @@ use Rattle.marking_write.proofs.write_edges.Statement.{statement}
 use Rattle.marking_write.proofs.write_edges.Tie as tie
 
 abbrev Inv-loop : tie.InvT-loop
-Inv-loop t table out₀ start tokens n to₀ j₀ out to j = (j ≤ n) × (to ≡ start + total (edgeSize t) j) × (length out ≡ length out₀)
+Inv-loop t table tokens out₀ start n to₀ j₀ out to j = (j ≤ n) × (to ≡ start + total (edgeSize t) j) × (length out ≡ length out₀)
     × (out ≡ sets out₀ start (gather (edgeBytes t tokens) (below j)))
 
 abbrev μ-loop : tie.MeasureT-loop
-μ-loop t table out₀ start tokens n to₀ j₀ out to j = n - j
+μ-loop t table tokens out₀ start n to₀ j₀ out to j = n - j
 
--- ---- places, each from a later one
-abbrev start-from-shared-slice-known : tie.After-shared-slice-known Inv-loop μ-loop → tie.Start Inv-loop μ-loop
-start-from-shared-slice-known c = c .before
-
-abbrev start-from-slice-known2 : tie.After-slice-known2 Inv-loop μ-loop → tie.Start Inv-loop μ-loop
-start-from-slice-known2 c = start-from-shared-slice-known (c .before .before .before .before .before .before .before)
+-- ---- the way back to the entry
+abbrev entry : tie.At-loop Inv-loop μ-loop → tie.Start Inv-loop μ-loop
+entry c = c .before .before .before .before
 
 loop-holds : tie.Need-loop-holds Inv-loop μ-loop
 unfolding total
 loop-holds c = search needs
 
-array-read-write-edge : tie.Need-array-read-write-edge Inv-loop μ-loop
-array-read-write-edge c = let b = c .before .before .before .before in omega (arith, most-edges (b .args .t .now) (b .pre .0))
+shared-slice-read-write-edge : tie.Need-shared-slice-read-write-edge Inv-loop μ-loop
+shared-slice-read-write-edge c = search needs
 
 write-edge-requires : tie.Need-write-edge-requires Inv-loop μ-loop
-write-edge-requires c κs = let b = c .before .before .before .before .before in
-    let l = c .before .before .loop in
+write-edge-requires c κs = let q = c .before .before .before in
+    let b = entry q in
     let s = read-spans (b .args .t .now) (b .pre .0) in
-    (b .pre .0, omega arith, omega (arith, total-room (edgeSize (b .args .t .now)) (l .j) (edges (b .args .t .now)) (omega arith)))
+    (b .pre .0, omega arith, omega (arith, total-room (edgeSize (b .args .t .now)) (q .loop .j) (edges (b .args .t .now)) (omega arith)))
 
 add-j : tie.Need-add-j Inv-loop μ-loop
 add-j c = search needs
@@ -49,20 +46,21 @@ loop-less : tie.Need-loop-less Inv-loop μ-loop
 loop-less c = search needs
 
 loop-again : tie.Need-loop-again Inv-loop μ-loop
-loop-again c = let a = start-from-slice-known2 c .args in
-    let l = c .before .before .before .before .before .loop in
+loop-again c = let q = c .before .before .before .before .before .before in
+    let a = entry q .args in
+    let l = q .loop in
     let w = c .before .before .write-edge in (
       omega arith,
       omega (arith, total-more (edgeSize (a .t .now)) (l .j)),
       omega arith,
-      edge-run (a .t .now) (a .t3) (a .out .now) (a .start) (l .j) (l .inv .1) (l .inv .3) (w .ensures .1 (a .t3) refl),
+      edge-run (a .t .now) (a .tokens .now) (a .out .now) (a .start) (l .j) (l .inv .1) (l .inv .3) (w .ensures .1 (a .tokens .now) refl),
     )
 
 same-length : tie.Need-same-length Inv-loop μ-loop
 same-length c = search needs
 
 returns : tie.Need-returns Inv-loop μ-loop
-returns c = let b = c .before .before .before .before in
+returns c = let b = entry (c .before) in
     let s = read-spans (b .args .t .now) (b .pre .0) in
     let l = c .before .loop in
     let e : l .j ≡ edges (b .args .t .now) = omega arith in
@@ -75,7 +73,7 @@ write-edges-spec =
     Inv-loop
     μ-loop
     loop-holds
-    array-read-write-edge
+    shared-slice-read-write-edge
     write-edge-requires
     add-j
     loop-less

@@ -22,7 +22,7 @@ abbrev start-from-shared-slice-known : tie.After-shared-slice-known → tie.Star
 start-from-shared-slice-known c = c .before .before
 
 abbrev start-from-edge2 : tie.After-edge2 → tie.Start
-start-from-edge2 c = start-from-shared-slice-known (c .before .before .before .before .before .before .before)
+start-from-edge2 c = start-from-shared-slice-known (c .before .before .before .before .before)
 
 abbrev start-from-target2 : tie.After-target2 → tie.Start
 start-from-target2 c = start-from-edge2 (c .before .before .before .before)
@@ -48,20 +48,20 @@ fill-masks2-from-by-home3 c = fill-masks2-from-home2 (c .before .before .before 
 abbrev start-from-target3 : tie.After-target3 → tie.Start
 start-from-target3 c = start-from-by-home3 (c .before .before .before .before .before)
 
-abbrev start-from-kept2 : tie.After-kept2 → tie.Start
-start-from-kept2 c = start-from-target3 (c .before .before .before)
+abbrev start-from-kept : tie.After-kept → tie.Start
+start-from-kept c = start-from-target3 (c .before .before .before)
 
 abbrev fill-masks2-from-add-edges : tie.After-add-edges → tie.After-fill-masks2
 fill-masks2-from-add-edges c = fill-masks2-from-by-home3 (c .before)
 
-abbrev fill-masks2-from-kept2 : tie.After-kept2 → tie.After-fill-masks2
-fill-masks2-from-kept2 c = fill-masks2-from-add-edges (c .before .before .before .before .before .before .before)
+abbrev fill-masks2-from-kept : tie.After-kept → tie.After-fill-masks2
+fill-masks2-from-kept c = fill-masks2-from-add-edges (c .before .before .before .before .before .before .before)
 
 abbrev fill-masks3-from-add-edges : tie.After-add-edges → tie.After-fill-masks3
 fill-masks3-from-add-edges c = c .before .before .before .before .before .before .before
 
-abbrev fill-masks3-from-kept2 : tie.After-kept2 → tie.After-fill-masks3
-fill-masks3-from-kept2 c = fill-masks3-from-add-edges (c .before .before .before .before .before .before .before)
+abbrev fill-masks3-from-kept : tie.After-kept → tie.After-fill-masks3
+fill-masks3-from-kept c = fill-masks3-from-add-edges (c .before .before .before .before .before .before .before)
 
 abbrev fill-masks-from-target3 : tie.After-target3 → tie.After-fill-masks
 fill-masks-from-target3 c = fill-masks-from-by-home3 (c .before .before .before .before .before)
@@ -69,20 +69,20 @@ fill-masks-from-target3 c = fill-masks-from-by-home3 (c .before .before .before 
 abbrev fill-masks-from-by-edge4 : tie.After-by-edge4 → tie.After-fill-masks
 fill-masks-from-by-edge4 c = fill-masks-from-target3 (c .before .before .before .before .before .before .before)
 
-abbrev start-from-runs2 : tie.After-runs2 → tie.Start
-start-from-runs2 c = start-from-kept2 (c .before .before .before .before .before .before .before)
+abbrev start-from-kept2 : tie.After-kept2 → tie.Start
+start-from-kept2 c = start-from-kept (c .before .before .before .before .before .before .before)
 
-abbrev fill-masks-from-runs2 : tie.After-runs2 → tie.After-fill-masks
-fill-masks-from-runs2 c = fill-masks-from-by-edge4 (c .before .before .before)
+abbrev fill-masks-from-kept2 : tie.After-kept2 → tie.After-fill-masks
+fill-masks-from-kept2 c = fill-masks-from-by-edge4 (c .before .before .before)
 
-abbrev fill-masks2-from-runs2 : tie.After-runs2 → tie.After-fill-masks2
-fill-masks2-from-runs2 c = fill-masks2-from-kept2 (c .before .before .before .before .before .before .before)
+abbrev fill-masks2-from-kept2 : tie.After-kept2 → tie.After-fill-masks2
+fill-masks2-from-kept2 c = fill-masks2-from-kept (c .before .before .before .before .before .before .before)
 
-abbrev fill-masks3-from-runs2 : tie.After-runs2 → tie.After-fill-masks3
-fill-masks3-from-runs2 c = fill-masks3-from-kept2 (c .before .before .before .before .before .before .before)
+abbrev fill-masks3-from-kept2 : tie.After-kept2 → tie.After-fill-masks3
+fill-masks3-from-kept2 c = fill-masks3-from-kept (c .before .before .before .before .before .before .before)
 
 abbrev start-from-add-arg : tie.After-add-arg → tie.Start
-start-from-add-arg c = start-from-runs2 (c .before .before)
+start-from-add-arg c = start-from-kept2 (c .before .before)
 
 abbrev add-edges-from-slice-known2 : tie.After-slice-known2 → tie.After-add-edges
 add-edges-from-slice-known2 c = c .before .before
@@ -106,16 +106,16 @@ abbrev add-edges-from-slice-known4 : tie.After-slice-known4 → tie.After-add-ed
 add-edges-from-slice-known4 c = add-edges-from-add-arg (c .before .before .before)
 
 abbrev start-from-slice-known4 : tie.After-slice-known4 → tie.Start
-start-from-slice-known4 c = start-from-runs2 (c .before .before .before .before .before)
+start-from-slice-known4 c = start-from-kept2 (c .before .before .before .before .before)
 
 abbrev fill-masks-from-slice-known4 : tie.After-slice-known4 → tie.After-fill-masks
-fill-masks-from-slice-known4 c = fill-masks-from-runs2 (c .before .before .before .before .before)
+fill-masks-from-slice-known4 c = fill-masks-from-kept2 (c .before .before .before .before .before)
 
 abbrev fill-masks2-from-slice-known4 : tie.After-slice-known4 → tie.After-fill-masks2
-fill-masks2-from-slice-known4 c = fill-masks2-from-runs2 (c .before .before .before .before .before)
+fill-masks2-from-slice-known4 c = fill-masks2-from-kept2 (c .before .before .before .before .before)
 
 abbrev fill-masks3-from-slice-known4 : tie.After-slice-known4 → tie.After-fill-masks3
-fill-masks3-from-slice-known4 c = fill-masks3-from-runs2 (c .before .before .before .before .before)
+fill-masks3-from-slice-known4 c = fill-masks3-from-kept2 (c .before .before .before .before .before)
 
 -- src/lib.rt:469:16
 slice-aggregate-fill-masks : tie.Need-slice-aggregate-fill-masks
@@ -198,12 +198,12 @@ slice-aggregate-add-targets-3 c = search needs
 
 -- src/lib.rt:491:9
 slice-aggregate-add-targets-4 : tie.Need-slice-aggregate-add-targets-4
-slice-aggregate-add-targets-4 c = sym (start-from-kept2 c .pre .4 .kept-long)
+slice-aggregate-add-targets-4 c = sym (start-from-kept c .pre .4)
 
 -- src/lib.rt:483:9
 add-targets-requires : tie.Need-add-targets-requires
 add-targets-requires c κs =
-    let p = start-from-kept2 c .pre in
+    let p = start-from-kept c .pre in
     let e = p .3 in
     let f = c .before .before .before .before .before .before .before .add-edges in (
       omega (arith, p .0, e .few, f .ensures .0),
@@ -211,9 +211,9 @@ add-targets-requires c κs =
       p .2,
       omega (arith, e .few, e .targets-full),
       e .few,
-      omega (arith, most-nodes _ (p .2), fill-masks2-from-kept2 c .fill-masks2 .kept),
-      omega (arith, most-nodes _ (p .2), fill-masks3-from-kept2 c .fill-masks3 .kept),
-      omega (arith, most-nodes _ (p .2), p .4 .kept-long),
+      omega (arith, most-nodes _ (p .2), fill-masks2-from-kept c .fill-masks2 .kept),
+      omega (arith, most-nodes _ (p .2), fill-masks3-from-kept c .fill-masks3 .kept),
+      omega (arith, most-nodes _ (p .2), p .4),
     )
 
 -- src/lib.rt:494:35
@@ -230,17 +230,17 @@ slice-aggregate-barred-3 c = search needs
 
 -- src/lib.rt:494:67
 slice-aggregate-barred-4 : tie.Need-slice-aggregate-barred-4
-slice-aggregate-barred-4 c = sym (start-from-runs2 c .pre .4 .runs-long)
+slice-aggregate-barred-4 c = sym (start-from-kept2 c .pre .4)
 
 -- src/lib.rt:494:9
 barred-requires : tie.Need-barred-requires
 barred-requires c κs =
-    let p = start-from-runs2 c .pre in (
+    let p = start-from-kept2 c .pre in (
       p .2,
-      omega (arith, most-edges _ (p .2), fill-masks-from-runs2 c .fill-masks .kept),
-      omega (arith, most-nodes _ (p .2), fill-masks2-from-runs2 c .fill-masks2 .kept),
-      omega (arith, most-nodes _ (p .2), fill-masks3-from-runs2 c .fill-masks3 .kept),
-      omega (arith, most-nodes _ (p .2), p .4 .runs-long),
+      omega (arith, most-edges _ (p .2), fill-masks-from-kept2 c .fill-masks .kept),
+      omega (arith, most-nodes _ (p .2), fill-masks2-from-kept2 c .fill-masks2 .kept),
+      omega (arith, most-nodes _ (p .2), fill-masks3-from-kept2 c .fill-masks3 .kept),
+      omega (arith, most-nodes _ (p .2), p .4),
     )
 
 -- src/lib.rt:495:5
@@ -260,15 +260,17 @@ returns : tie.Need-returns
 returns c =
     let s = start-from-slice-known4 c in
     let x = s .args .ends in
+    -- what is kept is the sixth parameter, which is lent where it stands
+    let k = s .args .t6 in
     let p = s .pre in
     let e = fill-masks-from-slice-known4 c .fill-masks in
     let f = fill-masks2-from-slice-known4 c .fill-masks2 in
     let g = fill-masks3-from-slice-known4 c .fill-masks3 in
     let m =
     masks-of {table = s .args .table} (e .ensures) (f .ensures) (g .ensures) (omega (arith, most-edges _ (p .2), e .kept)) (omega (arith, most-nodes _ (p .2), f .kept)) (omega (arith, most-nodes _ (p .2), g .kept)) in
-    destinations-added (s .args .t .now) (x .edge) (x .target) (x .home) (s .args .held .runs) (s .args .held .kept) (p .3 .few)
-    (add-edges-from-slice-known4 c .add-edges .ensures .1 (x .target) (x .home) m) (add-targets-from-slice-known4 c .add-targets .ensures .1 _ (x .edge) (x .home) (s .args .held .runs) m)
-    (c .before .before .before .before .barred .ensures (x .edge) (x .target) (x .home) (s .args .held .kept) (x .count) m) (c .before .before .add .ensures (x .count) (omega (arith, p .3 .few)))
+    destinations-added (s .args .t .now) (x .edge) (x .target) (x .home) k k (p .3 .few)
+    (add-edges-from-slice-known4 c .add-edges .ensures .1 (x .target) (x .home) m) (add-targets-from-slice-known4 c .add-targets .ensures .1 _ (x .edge) (x .home) k m)
+    (c .before .before .before .before .barred .ensures (x .edge) (x .target) (x .home) k (x .count) m) (c .before .before .add .ensures (x .count) (omega (arith, p .3 .few)))
 
 pub add-destinations-spec : {M : Type 1} → statement M
 add-destinations-spec =

@@ -59,7 +59,7 @@ returns c =
     let forks = c .before .before .before .before .before .before .add-forks .ensures in
     let destinations = c .before .before .add-destinations .ensures in (
       omega (arith, forks .few, destinations .few, s .pre .2 .few),
-      λ room x. filled-says (a .t .now) (a .offers) (a .ends) (a .held .runs) (a .held .kept) x (read-good _ (s .pre .1)) room (fill-rivals-from-slice-known4 c .fill-rivals .ensures) forks destinations,
+      λ room x. filled-says (a .t .now) (a .offers) (a .ends) (a .kept) (a .kept) x (read-good _ (s .pre .1)) room (fill-rivals-from-slice-known4 c .fill-rivals .ensures) forks destinations,
     )
 
 pub fill-spec : {M : Type 1} → statement M

@@ -1,33 +1,39 @@
 -- `start`: nothing is held, and what is delivered is the reply. Assumes nothing.
+use Rattle.marking_held.proofs.HeldLaws.{nothing-lengths}
 use Rattle.start_finish.proofs.StartLaws.{start-ready, start-leaves}
 use borrow.Author.Needs.{needs}
 use Rattle.start_finish.proofs.start.Statement.{statement}
 use Rattle.start_finish.proofs.start.Tie as tie
 
--- ---- places, each from a later one
-abbrev start-from-shared-slice-known : tie.After-shared-slice-known → tie.Start
-start-from-shared-slice-known c = c .before
+slice-aggregate-deliver : tie.Need-slice-aggregate-deliver
+slice-aggregate-deliver c = search needs
 
-abbrev start-from-slice-known2 : tie.After-slice-known2 → tie.Start
-start-from-slice-known2 c = start-from-shared-slice-known (c .before .before .before .before .before .before .before)
+slice-aggregate-deliver-2 : tie.Need-slice-aggregate-deliver-2
+slice-aggregate-deliver-2 c = search needs
 
-nothing-requires : tie.Need-nothing-requires
-nothing-requires c κs = search needs
+slice-aggregate-deliver-3 : tie.Need-slice-aggregate-deliver-3
+slice-aggregate-deliver-3 c = search needs
 
 deliver-requires : tie.Need-deliver-requires
-deliver-requires c κs = let b = c .before .before .before .before .before in
-    let n = c .before .nothing in
-    (b .pre, n .ensures .lengths, start-ready (b .args .t .now) (b .args .values .now) (b .args .table) (b .pre) (n .result) (n .ensures))
+deliver-requires c κs = let b = c .before .before .before .before .before .before .before in
+    (b .pre, nothing-lengths, start-ready (b .args .t .now) (b .args .values .now) (b .args .table) (b .pre))
 
 same-length : tie.Need-same-length
 same-length c = search needs
 
 returns : tie.Need-returns
-returns c = let b = start-from-slice-known2 c in
+returns c = let b = c .before .before .before .before .before .before .before .before .before .before .before in
     let a = b .args in
-    let n = c .before .before .before .before .nothing in
-    let d = c .before .before .deliver in
-    start-leaves (a .t .now) (a .values .now) (a .table) (b .pre) (n .result) (n .ensures) (d .result) (a .out .now) (d .last .1 .1 .1 .1 .1 .1 .1 .0) (d .ensures)
+    let d = c .before .before .before .deliver in
+    start-leaves (a .t .now) (a .values .now) (a .table) (b .pre) (d .result) (a .out .now) (d .last .1 .1 .1 .1 .1 .1 .1 .1 .1 .0) (d .ensures)
 
 pub start-spec : {M : Type 1} → statement M
-start-spec = tie.close (tie.spec nothing-requires deliver-requires same-length returns)
+start-spec =
+    tie.close
+    (tie.spec
+    slice-aggregate-deliver
+    slice-aggregate-deliver-2
+    slice-aggregate-deliver-3
+    deliver-requires
+    same-length
+    returns)

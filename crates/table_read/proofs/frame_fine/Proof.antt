@@ -8,7 +8,6 @@ use lib.ListN.{length}
 use borrow.Author.Tests.{not-true, not-false, le-leb, lt-leb, eq-eqb, ne-eqb}
 use borrow.Author.Needs.{needs}
 use Rattle.paper.specs.Lists.{at, within}
-use Rattle.paper.specs.Limits.{limits}
 use Rattle.paper.specs.Table.{version, nodes, edges, edgeAt, frameFine}
 use Rattle.table_read.proofs.frame_fine.Statement.{statement}
 use Rattle.table_read.proofs.frame_fine.Tie as tie
@@ -24,13 +23,10 @@ abbrev start-from-else2 : tie.Else2 → tie.Start
 start-from-else2 c = c .before .before .before .before
 
 abbrev start-from-then5 : tie.Then5 → tie.Start
-start-from-then5 c = start-from-else2 (c .before .before .before .before .before .before .before)
+start-from-then5 c = start-from-else2 (c .before .before .before .before .before .before .before .before)
 
-abbrev start-from-shared-slice-known2 : tie.After-shared-slice-known2 → tie.Start
-start-from-shared-slice-known2 c = c .before .before .before .before .before
-
-abbrev start-from-edge-at : tie.After-edge-at → tie.Start
-start-from-edge-at c = start-from-shared-slice-known2 (c .before .before .before .before .before .before .before)
+abbrev start-from-else5 : tie.Else5 → tie.Start
+start-from-else5 c = start-from-else2 (c .before .before .before .before .before .before .before .before)
 
 returns : tie.Need-returns
 unfolding frameFine
@@ -77,15 +73,15 @@ within-requires c κs = search needs
 returns-4 : tie.Need-returns-4
 unfolding frameFine
 returns-4 c =
-    let t = start-from-then4 c .args .s .now in
-    let f : within 1 (limits .mostNodes) (nodes t) ≡ false = rw (← c .before .before .counts .ensures .0) (sym (c .before .within .ensures) ∙ not-true _ (c .if4 .taken)) in
+    let a = start-from-then4 c .args in
+    let f : within 1 (a .most .nodes) (nodes (a .s .now)) ≡ false = rw (← c .before .before .counts .ensures .0) (sym (c .before .within .ensures) ∙ not-true _ (c .if4 .taken)) in
     simp (f, and-false)
 
 returns-5 : tie.Need-returns-5
 unfolding frameFine
 returns-5 c =
-    let t = start-from-then5 c .args .s .now in
-    let f : leb (edges t) (limits .mostEdges) ≡ false = omega (arith, lt-leb) in
+    let a = start-from-then5 c .args in
+    let f : leb (edges (a .s .now)) (a .most .edges) ≡ false = omega (arith, lt-leb) in
     simp (f, and-false)
 
 edge-at-requires : tie.Need-edge-at-requires
@@ -94,12 +90,14 @@ edge-at-requires c κs = search needs
 returns-6 : tie.Need-returns-6
 unfolding frameFine version
 returns-6 c =
-    let t = start-from-edge-at c .args .s .now in
+    let a = start-from-else5 (c .before) .args in
+    let t = a .s .now in
+    let w = c .before .before .before .before in
+    let n = w .before .counts .ensures in
     let f1 : eqb (at t 0 * 256 + at t 1 + 2) (length t) ≡ true = omega (arith, eq-eqb) in
     let f2 : eqb (at t 2) 1 ≡ true = omega (arith, eq-eqb) in
-    let f3 : within 1 (limits .mostNodes) (nodes t) ≡ true = rw (← c .before .before .before .before .counts .ensures .0) (sym (c .before .before .before .within .ensures) ∙ not-false _ (c .before .before .if4 .left)) in
-    let f4 : leb (edges t) (limits .mostEdges) ≡ true = omega (arith, le-leb) in
-    let n = c .before .before .before .before .counts .ensures in
+    let f3 : within 1 (a .most .nodes) (nodes t) ≡ true = rw (← n .0) (sym (w .within .ensures) ∙ not-false _ (c .before .before .before .if4 .left)) in
+    let f4 : leb (edges t) (a .most .edges) ≡ true = omega (arith, le-leb) in
     rw (f1, f2, f3, f4) (ap (eqb (length t)) (c .edge-at .ensures t (n .0) ∙ ap (edgeAt t) (n .1)))
 
 pub frame-fine-spec : {M : Type 1} → statement M

@@ -14,10 +14,10 @@ use Rattle.why.proofs.climb.Statement.{statement}
 use Rattle.why.proofs.climb.Tie as tie
 
 abbrev Inv-loop : tie.InvT-loop
-Inv-loop t table offers ends held node k₀ k = (k ≤ 5) × OnBoard t offers ends held (λ d. SomeLeft (levels d node) (howMany d) k)
+Inv-loop t table offers ends kept node k₀ k = (k ≤ 5) × OnBoard t offers ends kept (λ d. SomeLeft (levels d node) (howMany d) k)
 
 abbrev μ-loop : tie.MeasureT-loop
-μ-loop t table offers ends held node k₀ k = 5 - k
+μ-loop t table offers ends kept node k₀ k = 5 - k
 
 loop-holds : tie.Need-loop-holds Inv-loop μ-loop
 loop-holds c = (omega arith, λ d s. some-at-0 (levels d (c .before .args .node)) (howMany d))

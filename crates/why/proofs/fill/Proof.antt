@@ -62,7 +62,7 @@ fill-rivals-from-slice-known5 c = fill-rivals-from-add-destinations2 (c .before 
 returns : tie.Need-returns
 returns c =
     let s = c .before .before .before in
-    (omega arith, λ l room x. rw (c .if1 .taken) (none-asked (s .args .t .now) (s .args .offers) (s .args .ends) (s .args .held .runs) (s .args .held .kept) _ (s .pre .0) x))
+    (omega arith, λ l room x. rw (c .if1 .taken) (none-asked (s .args .t .now) (s .args .offers) (s .args .ends) (s .args .kept) (s .args .kept) _ (s .pre .0) x))
 
 -- src/lib.rt:106:9
 add-destinations-requires : tie.Need-add-destinations-requires
@@ -78,7 +78,7 @@ returns-2 c =
     let s = start-from-slice-known2 c in
     let h = c .before .before .add-destinations .ensures in (
       omega (arith, h .few),
-      λ l room x. rw (c .before .before .before .before .if2 .taken) (own-asked (s .args .t .now) (s .args .offers) (s .args .ends) (s .args .held .runs) (s .args .held .kept) (read-good _ (s .pre .2)) room (s .pre .0) h x),
+      λ l room x. rw (c .before .before .before .before .if2 .taken) (own-asked (s .args .t .now) (s .args .offers) (s .args .ends) (s .args .kept) (s .args .kept) (read-good _ (s .pre .2)) room (s .pre .0) h x),
     )
 
 -- src/lib.rt:110:34
@@ -107,7 +107,7 @@ returns-3 c =
     let s = start-from-then3 c in
     let h = c .before .before .before .add-destinations2 .ensures in (
       omega (arith, h .few),
-      λ l room x. rw (c .if3 .taken) (rivals-asked (s .args .t .now) (s .args .offers) (s .args .ends) (s .args .held .runs) (s .args .held .kept) (read-good _ (s .pre .2)) room
+      λ l room x. rw (c .if3 .taken) (rivals-asked (s .args .t .now) (s .args .offers) (s .args .ends) (s .args .kept) (s .args .kept) (read-good _ (s .pre .2)) room
           (c .before .before .before .before .before .before .before .fill-rivals .ensures) h x),
     )
 
@@ -128,7 +128,7 @@ returns-4 c =
       omega (arith, own .few, forks .few, s .pre .3 .few),
       λ l room x.
           let e : s .args .k ≡ 3 = omega (arith, c .before .before .before .before .if3 .left, else2-from-slice-known5 c .if2 .left, else1-from-slice-known5 c .if1 .left, l) in
-          rw e (forks-asked (s .args .t .now) (s .args .offers) (s .args .ends) (s .args .held .runs) (s .args .held .kept) (read-good _ (s .pre .2)) room
+          rw e (forks-asked (s .args .t .now) (s .args .offers) (s .args .ends) (s .args .kept) (s .args .kept) (read-good _ (s .pre .2)) room
           (fill-rivals-from-slice-known5 c .fill-rivals .ensures) own forks x),
     )
 

@@ -3,8 +3,8 @@
 
 use super::{Parts, Rng};
 use crate::table::{
-    is_control_node, is_object_node, is_pin, DECISION, FORK, INPUT_PIN, JOIN, MERGE, MOST_EDGES,
-    MOST_NODES,
+    is_control_node, is_object_node, is_pin, DECISION, FLOW_FINAL, FORK, INPUT_PIN, JOIN, MERGE,
+    MOST_EDGES, MOST_NODES, NO_OWNER,
 };
 
 /// The table with one damage or several. A few stay good all the same.
@@ -69,13 +69,16 @@ fn damaged_parts(rng: &mut Rng, mut parts: Parts) -> Vec<u8> {
     parts.write()
 }
 
-/// Wrong counts, with a length that agrees or not, or a wrong version.
+/// Wrong counts, with a length that agrees or not, or a wrong version. At times the
+/// counts are the highest that are right.
 fn damaged_frame(rng: &mut Rng, mut parts: Parts) -> Vec<u8> {
-    let end = [12, 255, 0, 0];
+    let end = [FLOW_FINAL, NO_OWNER, 0, 0];
+    let edge = parts.edges.last().copied().unwrap_or([0; 4]);
+    let more = usize::from(rng.percent(80));
     match rng.below(6) {
-        0 => parts.nodes.resize(MOST_NODES + 1, end),
+        0 => parts.nodes.resize(MOST_NODES + more, end),
         1 => parts.nodes.clear(),
-        2 => parts.edges.resize(MOST_EDGES + 1, [0, 0, 0, 0]),
+        2 => parts.edges.resize(MOST_EDGES + more, edge),
         _ => {
             let mut bytes = parts.write();
             let place = 2 + rng.below(3); // version, node count or edge count

@@ -1,7 +1,8 @@
 //! Random markings, guards, choices and value lists of a table, and whole events
 //! played from start by this crate's own operations.
 
-use super::{bounds, damaged_bytes, table, Parts, Rng};
+use super::tables::FORMER_EDGES;
+use super::{bounds, damaged_bytes, larger_table, table, Parts, Rng};
 use crate::bytes::{write_stock, Value};
 use crate::marking::{counted_edges, Marking};
 use crate::operations::{finish, start, Answer, Board, NO_NODE};
@@ -154,7 +155,8 @@ pub fn marking(rng: &mut Rng, table: &[u8]) -> Vec<u8> {
             run_action(rng, &table, &mut marking, action);
         }
     }
-    let fill = rng.between(20, 100);
+    // of a larger table a smaller part, so that not all have too many offers
+    let fill = rng.between(20, 100) * FORMER_EDGES / table.edges.len().max(FORMER_EDGES);
     for node in table.node_numbers().filter(|n| is_store(table.kind(*n))) {
         if rng.percent(fill) {
             let most = usize::from(table.nodes[node].upper);
@@ -205,18 +207,34 @@ impl Event {
     /// An event of a random table, at its start.
     pub fn begin(rng: &mut Rng) -> Event {
         let table = table(rng);
-        let values = legal_values(rng, &table);
-        let marking = match start(&table, &values, usize::MAX) {
-            Answer::Good(marking) => marking,
-            Answer::Refused { .. } => marking(rng, &table),
-        };
-        Event::at(rng, table, marking)
+        Event::start_of(rng, table)
     }
 
     /// An event of a random table, at a random marking.
     pub fn anywhere(rng: &mut Rng) -> Event {
         let table = table(rng);
         let marking = marking(rng, &table);
+        Event::at(rng, table, marking)
+    }
+
+    /// An event of a random table that is as large as those before wish 6 or larger,
+    /// at its start or at a random marking.
+    pub fn larger(rng: &mut Rng) -> Event {
+        let table = larger_table(rng);
+        if rng.percent(50) {
+            return Event::start_of(rng, table);
+        }
+        let marking = marking(rng, &table);
+        Event::at(rng, table, marking)
+    }
+
+    /// An event of this table, at its start.
+    fn start_of(rng: &mut Rng, table: Vec<u8>) -> Event {
+        let values = legal_values(rng, &table);
+        let marking = match start(&table, &values, usize::MAX) {
+            Answer::Good(marking) => marking,
+            Answer::Refused { .. } => marking(rng, &table),
+        };
         Event::at(rng, table, marking)
     }
 
@@ -290,6 +308,7 @@ impl Event {
                     target
                 }
             }
+            _ if rng.percent(50) => rng.below(nodes.len() + 2) as u8,
             _ => rng.below(MOST_NODES + 2) as u8,
         }
     }

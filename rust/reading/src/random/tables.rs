@@ -9,10 +9,26 @@ use crate::table::{
     MOST_NODES, OBJECT, OUTGOING_PARAMETER, OUTPUT_PIN,
 };
 
-/// A random table that check finds good: from one node to 48 nodes and 64 edges,
-/// with chains of up to 15 control nodes.
+/// The most nodes and edges of a table before wish 6. Most tables are drawn within
+/// these, some just above, and a few up to what the wish allows.
+const FORMER_NODES: usize = 48;
+/// See [`FORMER_NODES`].
+pub const FORMER_EDGES: usize = 64;
+
+/// A random table that check finds good: from one node to all that a table may have
+/// of nodes and edges, with chains of up to 15 control nodes.
 pub fn table(rng: &mut Rng) -> Vec<u8> {
-    let mut diagram = Diagram::new(rng);
+    grown(rng, &[10, 30, 30, 20, 6, 3, 1])
+}
+
+/// The same with as many nodes as a table could have before wish 6, or more.
+pub fn larger_table(rng: &mut Rng) -> Vec<u8> {
+    grown(rng, &[0, 0, 0, 0, 20, 60, 20])
+}
+
+/// A random table, with these weights of its sizes.
+fn grown(rng: &mut Rng, sizes: &[usize; 7]) -> Vec<u8> {
+    let mut diagram = Diagram::new(rng, sizes);
     diagram.plant_nodes();
     diagram.grow_control_nodes();
     diagram.close_flows();
@@ -51,22 +67,26 @@ struct Diagram<'r> {
     weights: [usize; 4],
     /// The most edges that leave a decision or fork, or enter a merge or join.
     width: usize,
-    /// Whether the last nodes and edges are filled up.
-    is_full: bool,
+    /// Up to how many the last nodes and edges are filled up, if they are.
+    filled: Option<(usize, usize)>,
 }
 
 impl<'r> Diagram<'r> {
-    /// An empty diagram with random limits.
-    fn new(rng: &'r mut Rng) -> Diagram<'r> {
-        let (least, most) = match rng.weighted(&[10, 30, 30, 20, 10]) {
+    /// An empty diagram with random limits, for which the sizes have these weights.
+    fn new(rng: &'r mut Rng, sizes: &[usize; 7]) -> Diagram<'r> {
+        let (least, most) = match rng.weighted(sizes) {
             0 => (1, 4),
             1 => (5, 12),
             2 => (13, 24),
-            3 => (25, 47),
-            _ => (48, 48),
+            3 => (25, FORMER_NODES - 1),
+            4 => (FORMER_NODES, FORMER_NODES + 1),
+            5 => (FORMER_NODES + 2, MOST_NODES - 1),
+            _ => (MOST_NODES, MOST_NODES),
         };
         let most_nodes = rng.between(least, most);
-        let most_edges = rng.between(most_nodes, 2 * most_nodes + 2).min(MOST_EDGES);
+        let most_edges = rng.between(most_nodes, 2 * most_nodes + 2);
+        let is_within = most_nodes <= FORMER_NODES && rng.percent(70);
+        let limit = if is_within { FORMER_EDGES } else { MOST_EDGES };
         let mut weights = [1, 2, 4, 8]; // many forks and joins
         if rng.percent(65) {
             weights = [0; 4].map(|_: usize| rng.between(1, 4));
@@ -75,12 +95,17 @@ impl<'r> Diagram<'r> {
             parts: Parts::default(),
             open: Vec::new(),
             most_nodes,
-            most_edges,
+            most_edges: most_edges.min(limit),
             deepest_first: if rng.percent(20) { 90 } else { 25 },
             rounds: [0, 40, 400][rng.weighted(&[60, 25, 15])],
             weights,
             width: if rng.percent(8) { 9 } else { rng.between(1, 4) },
-            is_full: rng.percent(10),
+            filled: [
+                None,
+                Some((FORMER_NODES, FORMER_EDGES)),
+                Some((FORMER_NODES + 1, FORMER_EDGES + 1)),
+                Some((MOST_NODES, MOST_EDGES)),
+            ][rng.weighted(&[90, 6, 2, 2])],
             rng,
         }
     }
@@ -437,13 +462,14 @@ impl<'r> Diagram<'r> {
         self.parts.add_edge(CONTROL, source, action, 0);
     }
 
-    /// In full diagrams, nodes without edges up to 48, and as many more edges as
+    /// In diagrams that are filled up, nodes without edges, and as many more edges as
     /// there is room for, next to edges that touch no control node.
     fn fill_up(&mut self) {
-        if !self.is_full {
-            return;
-        }
-        while self.parts.nodes.len() < MOST_NODES {
+        let (nodes, edges) = match self.filled {
+            Some(filled) => filled,
+            None => return,
+        };
+        while self.parts.nodes.len() < nodes {
             self.plant_target();
         }
         let kind_of = |number: u8| self.parts.nodes[usize::from(number)][0];
@@ -457,7 +483,7 @@ impl<'r> Diagram<'r> {
             .filter(touches_none)
             .copied()
             .collect();
-        while self.parts.edges.len() < MOST_EDGES && !plain.is_empty() {
+        while self.parts.edges.len() < edges && !plain.is_empty() {
             let again = self.rng.one_of(&plain);
             self.parts.edges.extend(again);
         }

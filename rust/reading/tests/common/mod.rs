@@ -54,8 +54,8 @@ pub fn bounds(entries: &[(u8, u32, u32)]) -> Vec<u8> {
 /// The greatest value.
 pub const MOST: u32 = 4_294_967_295;
 
-/// Room for any reply.
-pub const ROOM: usize = 4096;
+/// Room for any reply: "A marking may now take up to 8,192 bytes".
+pub const ROOM: usize = 8192;
 
 /// A refusal.
 pub fn refused(number: u8, place: u8) -> Answer {

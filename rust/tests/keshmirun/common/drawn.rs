@@ -1,5 +1,6 @@
 //! Events drawn by hand, node by node and edge by edge, at one point; and what a sheet lists.
 
+use keshmirun::Room;
 use reading::random::Parts;
 use reading::Answer;
 
@@ -20,7 +21,8 @@ pub const ACTIVITY_FINAL: u8 = 13;
 pub const CONTROL: u8 = 0;
 pub const OBJECT: u8 = 1;
 
-pub const ROOM: usize = 4096;
+/// Room for any reply.
+pub const ROOM: usize = Room::MARKING;
 /// How many enumeration steps the reading may take for a call.
 pub const BUDGET: u64 = 100_000;
 

@@ -1,9 +1,11 @@
-//! Events near the paper's sizes, a little below and a little above: 64 offers, 8 paths in an offer, 20 ends.
+//! Events near the paper's sizes, a little below and a little above: 64 offers, 8 paths in an offer, 20 ends. Some stand in the largest table.
 
+use keshmirun::{MOST_EDGES, MOST_NODES};
 use reading::random::{marking, Event, Parts, Rng};
 
 const INITIAL: u8 = 1;
 const BUFFER: u8 = 5;
+const PARAMETER: u8 = 6;
 const DECISION: u8 = 8;
 const MERGE: u8 = 9;
 const FORK: u8 = 10;
@@ -11,6 +13,7 @@ const JOIN: u8 = 11;
 const FLOW_FINAL: u8 = 12;
 
 const CONTROL: u8 = 0;
+const OBJECT: u8 = 1;
 
 /// An event near one of the sizes, in a random numbering. All its sources are full, as a rule.
 pub fn event(rng: &mut Rng) -> Event {
@@ -29,6 +32,9 @@ pub fn event(rng: &mut Rng) -> Event {
         }
         _ => ladder(rng),
     };
+    if rng.percent(15) {
+        fill_up(&mut parts);
+    }
     for edge in &mut parts.edges {
         edge[3] = u8::from(rng.percent(5));
     }
@@ -38,11 +44,22 @@ pub fn event(rng: &mut Rng) -> Event {
     Event::at(rng, table, marking)
 }
 
+/// Finals up to the most nodes, and up to the most edges those of a parameter that is empty: nothing more is on offer.
+fn fill_up(parts: &mut Parts) {
+    let (from, to) = (parts.add_node(PARAMETER, 1), parts.add_node(FLOW_FINAL, 0));
+    while parts.nodes.len() < MOST_NODES {
+        parts.add_node(FLOW_FINAL, 0);
+    }
+    while parts.edges.len() < MOST_EDGES {
+        parts.add_edge(OBJECT, from, to, 0);
+    }
+}
+
 /// The marking in which each buffer holds a value and each initial node's edge some tokens.
 pub fn full(rng: &mut Rng, parts: &Parts) -> Vec<u8> {
     let mut body = vec![1, 0];
-    for node in parts.nodes.iter().filter(|node| node[0] == BUFFER) {
-        let held = rng.between(1, usize::from(node[3]));
+    for node in parts.nodes.iter().filter(|node| [BUFFER, PARAMETER].contains(&node[0])) {
+        let held = if node[0] == BUFFER { rng.between(1, usize::from(node[3])) } else { 0 };
         body.push(held as u8);
         body.extend((0..4 * held).map(|_| rng.byte()));
     }

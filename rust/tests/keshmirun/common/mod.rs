@@ -4,6 +4,7 @@ pub mod arrivals;
 pub mod drawn;
 pub mod held;
 pub mod limits;
+pub mod longest;
 pub mod pairings;
 pub mod picks;
 pub mod points;
@@ -14,7 +15,7 @@ pub mod steps;
 pub mod vectors;
 pub mod whys;
 
-use keshmirun::Refusal;
+use keshmirun::{Refusal, Room};
 use reading::random::{Parts, Rng};
 use reading::Answer;
 use std::collections::BTreeSet;
@@ -62,7 +63,7 @@ pub fn room(rng: &mut Rng, full: &Answer) -> usize {
         0 => exact,
         1 => exact.saturating_sub(1),
         2 => rng.below(200),
-        _ => 4096,
+        _ => Room::MARKING,
     }
 }
 
@@ -97,7 +98,7 @@ pub fn called(
 
 /// What the engine answers in room to spare.
 pub fn answered(operation: impl FnOnce(&mut [u8]) -> Result<usize, Refusal>) -> Answer {
-    let mut out = [0; 4096];
+    let mut out = [0; Room::MARKING];
     match operation(&mut out) {
         Ok(length) => Answer::Good(out[..length].to_vec()),
         Err(Refusal { number, place }) => Answer::Refused { number, place },
@@ -173,6 +174,11 @@ impl Seen {
     /// So many answers were others before results of one round could be taken together.
     pub fn assert_freed(&self, least: usize) {
         assert!(self.freed >= least, "{self:?}");
+    }
+
+    /// Every one of these refusals came at a place over this one.
+    pub fn assert_place_over(&self, place: u8, numbers: &[usize]) {
+        assert!(numbers.iter().all(|&number| self.places[number].iter().max() > Some(&place)), "{self:?}");
     }
 
     /// Every one of these refusals came at so many places.

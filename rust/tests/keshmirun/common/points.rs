@@ -5,17 +5,24 @@ use reading::random::{bounds, damaged, damaged_bytes, guards, Event, Rng};
 /// How many enumeration steps the reading may take for a call; what passes them is skipped, and counted.
 pub const BUDGET: u64 = 20_000;
 
-/// Whole events, one after another: most are played from their start, one in four from anywhere.
+/// Whole events, one after another: most are played from their start, one in four, of larger events every other, from anywhere.
 #[derive(Default)]
 pub struct Walk {
     event: Option<Event>,
+    is_larger: bool,
 }
 
 impl Walk {
+    /// Of tables that are as large as any was before wish 6, or larger.
+    pub fn larger() -> Walk {
+        Walk { event: None, is_larger: true }
+    }
+
     /// The next point: the event goes on, or another one begins.
     pub fn next(&mut self, rng: &mut Rng) -> Event {
         let event = match self.event.take() {
             Some(event) => event,
+            None if self.is_larger => Event::larger(rng),
             None if rng.percent(25) => Event::anywhere(rng),
             None => Event::begin(rng),
         };

@@ -22,10 +22,21 @@ pub fn compiled(source: &str) -> PathBuf {
 
 /// Links these files in this order to a program of this name, and runs it: its exit status.
 pub fn ran(name: &str, files: &[PathBuf]) -> Option<i32> {
+    runner(&linked(name, files)).status().expect("the program").code()
+}
+
+/// The same: what it prints.
+pub fn printed(name: &str, files: &[PathBuf]) -> String {
+    let ran = runner(&linked(name, files)).output().expect("the program");
+    assert!(ran.status.success(), "{ran:?}");
+    String::from_utf8(ran.stdout).expect("text")
+}
+
+fn linked(name: &str, files: &[PathBuf]) -> PathBuf {
     let program = in_folder(name);
     let linked = compiler().args(files).arg("-o").arg(&program).status().expect("a C compiler, named by CC or cc");
     assert!(linked.success(), "{name}");
-    runner(&program).status().expect("the program").code()
+    program
 }
 
 /// cargo's folder for what tests write; built and run are the work of one test each, so names don't meet.

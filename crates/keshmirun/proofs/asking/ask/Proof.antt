@@ -1,13 +1,12 @@
 -- `ask`: row after row, each by what its reader answers, and what is asked of the board. Assumes nothing.
-use mathlib.Core.Path.{_≡_, sym, ap, subst, _∙_}
+use mathlib.Core.Path.{_≡_, sym, ap, _∙_}
 use native.Mathlib.Omega.{arith}
 use Rattle.paper.specs.Answers.{refused, good}
 use Rattle.paper.specs.Offers.{terms}
 use Rattle.paper.specs.Choices.{board}
 use Rattle.table.proofs.Reading.{read-spans, read-good, most-nodes, most-edges}
 use Rattle.terms.specs.Terms.{said, termsFine}
-use Rattle.marking_held.specs.declared.Held.{Held}
-use Rattle.marking_held.specs.MarkingHeld.{LiveMarking, heldOf}
+use Rattle.marking_held.specs.MarkingHeld.{Held, LiveMarking, heldOf}
 use Rattle.marking_held.proofs.HeldLaws.{lengths-up, live-up}
 use Rattle.board.proofs.Ladder.{board-5, board-6, board-terms}
 use Rattle.keshmirun.proofs.Requests.{asked-refused}
@@ -116,17 +115,10 @@ returns-3 c =
 enum-told-3 : tie.Need-enum-told-3
 enum-told-3 c = search needs
 
-take-up-requires : tie.Need-take-up-requires
-take-up-requires c κs = search needs
-
 respond-requires : tie.Need-respond-requires
 respond-requires c κs =
-    let v = c .before .before .before .before in
-    let a = start (v .before) .args in (
-      start (v .before) .pre,
-      subst (λ (x : Held). LiveMarking (a .t .now) (a .b .now) x) (sym (c .before .take-up .ensures)) (live-then (v .before)),
-      sym (sym (ap said (c .before .before .enum-told3 .given .1)) ∙ v .read2 .ensures),
-    )
+    let v = c .before .before .before in
+    (start (v .before) .pre, live-then (v .before), sym (sym (ap said (c .before .enum-told3 .given .1)) ∙ v .read2 .ensures))
 
 same-length : tie.Need-same-length
 same-length c = search needs
@@ -154,7 +146,6 @@ ask-spec =
     pack-requires-3
     returns-3
     enum-told-3
-    take-up-requires
     respond-requires
     same-length
     returns-4)

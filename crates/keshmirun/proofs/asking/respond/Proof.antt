@@ -11,6 +11,8 @@ use Rattle.paper.proofs.Bytes.{Bytes}
 use Rattle.table.proofs.Reading.{read-spans}
 use Rattle.offers.specs.Rows.{rowCells}
 use Rattle.terms.proofs.GuardLaws.{guards-long}
+use Rattle.marking_held.specs.MarkingHeld.{fieldsHeld}
+use Rattle.marking_held.proofs.HeldLaws.{fields-long}
 use Rattle.board.specs.Reading.{EndsLent, EndsRoom, endsLent, Laid}
 use Rattle.board.proofs.BoardLaws.{laid-refusal, laid-board, laid-seatable}
 use Rattle.board.proofs.Ladder.{fine-long}
@@ -79,12 +81,12 @@ abbrev ends-then : tie.After-answer → ℕ
 ends-then c = c .answer .given .0 .0
 
 laid-then : (c : tie.After-answer) → let v = lay-from-answer c in let a = start-from-lay v .args in
-    Laid (v .before .before .before .before .before .before .is-shown .result) (a .t .now) (a .b .now) (terms-then v) (a .held) (rows-then v) (v .lay .result .offers) (lent-then v) (ends-then c)
+    Laid (v .before .before .before .before .before .before .is-shown .result) (a .t .now) (a .b .now) (terms-then v) (fieldsHeld (a .fields)) (rows-then v) (v .lay .result .offers) (lent-then v) (ends-then c)
 laid-then c =
     let v = lay-from-answer c in
     let s = start-from-lay v in
     let a = s .args in
-    laid-board (v .before .before .before .before .before .before .is-shown .result) (a .t .now) (a .b .now) (terms-then v) (a .held) (rows-then v) (v .lay .result .offers) (lent-then v) (v .lay .result .answer)
+    laid-board (v .before .before .before .before .before .before .is-shown .result) (a .t .now) (a .b .now) (terms-then v) (fieldsHeld (a .fields)) (rows-then v) (v .lay .result .offers) (lent-then v) (v .lay .result .answer)
     (v .lay .ensures (s .pre .1) (s .pre .2)) (ends-then c) (c .answer .given .1)
 
 bytes-then : (c : tie.After-lay) → Bytes (start-from-lay c .args .b .now)
@@ -92,7 +94,7 @@ bytes-then c i = (c .before .before .before .before .before .before .before .bef
 
 -- ---- it stands in the offers and the ends by value
 standing-then : (c : tie.After-assemble) → let a = start-from-assemble c .args in
-    Standing (a .t .now) (a .b .now) (c .assemble .result) (seat-from-assemble c .seat .result) (a .held)
+    Standing (a .t .now) (a .b .now) (c .assemble .result) (seat-from-assemble c .seat .result) (fieldsHeld (a .fields))
 standing-then c =
     let e = seat-from-assemble c .seat in
     laid-standing (laid-then (answer-from-assemble c)) (bytes-then (lay-from-answer (answer-from-assemble c))) (c .assemble .result) (c .assemble .ensures .0)
@@ -161,7 +163,7 @@ lay-requires : tie.Need-lay-requires
 lay-requires c κs =
     let s = start-from-cells c in
     let a = s .args in
-    (s .pre .0, s .pre .1 .lengths, fine-long (a .t .now) (a .g .now) (a .bounds .now) (s .pre .2), omega arith, record { ends-room = omega arith; order-room = omega arith; lens-room = omega arith; cells-room = omega arith })
+    (s .pre .0, fields-long (s .pre .1), fine-long (a .t .now) (a .g .now) (a .bounds .now) (s .pre .2), omega arith, record { ends-room = omega arith; order-room = omega arith; lens-room = omega arith; cells-room = omega arith })
 
 enum-known-answer : tie.Need-enum-known-answer
 enum-known-answer c = search needs
@@ -178,7 +180,7 @@ returns c =
     let s = start-from-lay v in
     let a = s .args in
     asked-refused (a .t .now) (a .b .now) (terms-then v) (a .choice .now) (a .request) _ _ (c .pack .result) (a .out .now)
-    (laid-refusal (v .before .before .before .before .before .before .is-shown .result) (a .t .now) (a .b .now) (terms-then v) (a .held) (rows-then v) (v .lay .result .offers) (lent-then v) (v .lay .result .answer)
+    (laid-refusal (v .before .before .before .before .before .before .is-shown .result) (a .t .now) (a .b .now) (terms-then v) (fieldsHeld (a .fields)) (rows-then v) (v .lay .result .offers) (lent-then v) (v .lay .result .answer)
     (v .lay .ensures (s .pre .1) (s .pre .2)) _ _ (c .before .before .answer2 .given .1)) (c .pack .ensures)
 
 enum-told : tie.Need-enum-told
@@ -246,43 +248,43 @@ enum-known-asked c = search needs
 
 pick-requires : tie.Need-pick-requires
 pick-requires c κs =
-    let v = c .before .before .before .before in
+    let v = c .before .before .before .before .before in
     let s = start-from-assemble v in
-    (s .pre .0, v .assemble .ensures .1, seat-from-assemble v .seat .ensures .0, s .pre .1 .lengths)
+    (s .pre .0, v .assemble .ensures .1, seat-from-assemble v .seat .ensures .0, s .pre .1 .lengths .kept-long)
 
 enum-known-asked-2 : tie.Need-enum-known-asked-2
 enum-known-asked-2 c = search needs
 
 why-requires : tie.Need-why-requires
 why-requires c κs =
-    let v = c .before .before .before .before in
+    let v = c .before .before .before .before .before in
     let s = start-from-assemble v in
-    (s .pre .0, v .assemble .ensures .1, seat-from-assemble v .seat .ensures .0, s .pre .1 .lengths)
+    (s .pre .0, v .assemble .ensures .1, seat-from-assemble v .seat .ensures .0, s .pre .1 .lengths .kept-long)
 
 enum-told-2 : tie.Need-enum-told-2
 enum-told-2 c = search needs
 
 step-requires : tie.Need-step-requires
 step-requires c κs =
-    let v = c .before .before .before in
+    let v = c .before .before .before .before in
     let s = start-from-assemble v in
-    (s .pre .0, v .assemble .ensures .1, seat-from-assemble v .seat .ensures .0, s .pre .1 .lengths, standing-then v)
+    (s .pre .0, v .assemble .ensures .1, seat-from-assemble v .seat .ensures .0, fields-long (s .pre .1), standing-then v)
 
 enum-known-asked-3 : tie.Need-enum-known-asked-3
 enum-known-asked-3 c = search needs
 
 states-requires : tie.Need-states-requires
 states-requires c κs =
-    let v = c .before .before .before in
+    let v = c .before .before .before .before in
     let s = start-from-assemble v in
-    (s .pre .0, v .assemble .ensures .1, seat-from-assemble v .seat .ensures .0, s .pre .1 .lengths)
+    (s .pre .0, v .assemble .ensures .1, seat-from-assemble v .seat .ensures .0, s .pre .1 .lengths .kept-long)
 
 same-length-2 : tie.Need-same-length-2
 same-length-2 c = search needs
 
 returns-3 : tie.Need-returns-3
 returns-3 c =
-    let v = c .before .before .before .before .before .before .before in
+    let v = c .before .before .before .before .before .before .before .before in
     let d = standing-then v in
     let a = start-from-assemble v .args in
     let r = c .before .before .pick in
@@ -294,7 +296,7 @@ same-length-3 c = search needs
 
 returns-4 : tie.Need-returns-4
 returns-4 c =
-    let v = c .before .before .before .before .before .before .before in
+    let v = c .before .before .before .before .before .before .before .before in
     let d = standing-then v in
     let a = start-from-assemble v .args in
     let r = c .before .before .why in
@@ -306,7 +308,7 @@ same-length-4 c = search needs
 
 returns-5 : tie.Need-returns-5
 returns-5 c =
-    let v = c .before .before .before .before .before .before in
+    let v = c .before .before .before .before .before .before .before in
     let d = standing-then v in
     let a = start-from-assemble v .args in
     let r = c .before .before .step in
@@ -315,7 +317,7 @@ returns-5 c =
 
 returns-6 : tie.Need-returns-6
 returns-6 c =
-    let v = c .before .before .before .before in
+    let v = c .before .before .before .before .before in
     let d = standing-then v in
     let a = start-from-assemble v .args in
     let r = c .states in

@@ -1,0 +1,2 @@
+-- What the builders of the cases' tables are lent.
+pub mod Rooms

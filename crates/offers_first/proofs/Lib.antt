@@ -1,0 +1,2 @@
+-- Laws of first offers.
+pub mod StartLaws

@@ -1,0 +1,2 @@
+-- What an edge carries first.
+pub mod Starts

@@ -1,3 +1,0 @@
--- Laws of the step.
-pub mod Moving
-pub mod Calling
