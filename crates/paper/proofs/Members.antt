@@ -55,7 +55,7 @@ module _ {A : Type 0} where
       by true e m ih = ⊎_elim (λ q. (here q, ap p q ∙ e)) (λ k. (later (ih k).0, (ih k).1)) (in-cons m)
       by false e m ih = (later (ih m).0, (ih m).1)
 
-  pub keep_in : (p : A → Bool) {xs : List A} {x : A} → In x xs → p x ≡ true → In x (keep p xs)
+  pub keep_in : (p : A → Bool) {x : A} {xs : List A} → In x xs → p x ≡ true → In x (keep p xs)
   keep_in p (here {xs = ys} e) h = rw (ap p (sym e) ∙ h) (here e)
   keep_in p (later {x = y} {xs = ys} m) h = by (p y) (keep_in p m h)
     where
@@ -100,7 +100,7 @@ module _ {A B : Type 0} where
   in_each f (x ∷ xs) m =
       ⊎_elim (λ e. (x, here refl, e)) (λ k. let r = in_each f xs k in (r.0, later r.1, r.2)) (in-cons m)
 
-  pub each_in : (f : A → B) {xs : List A} {x : A} → In x xs → In (f x) (each f xs)
+  pub each_in : (f : A → B) {x : A} {xs : List A} → In x xs → In (f x) (each f xs)
   each_in f (here e) = here (ap f e)
   each_in f (later m) = later (each_in f m)
 
@@ -109,7 +109,7 @@ module _ {A B : Type 0} where
   in_gather f (x ∷ xs) m =
       ⊎_elim (λ k. (x, here refl, k)) (λ k. let r = in_gather f xs k in (r.0, later r.1, r.2)) (in-append (f x) m)
 
-  pub gather_in : (f : A → List B) {xs : List A} {x : A} {y : B} → In x xs → In y (f x) → In y (gather f xs)
+  pub gather_in : (f : A → List B) {x : A} {y : B} {xs : List A} → In x xs → In y (f x) → In y (gather f xs)
   gather_in f {y = y} (here {x = z} {xs = zs} e) k = append_left (gather f zs) (rw e at k)
   gather_in f (later {x = z} m) k = append_right (f z) (gather_in f m k)
 

@@ -53,6 +53,7 @@ module _ (t : List ℕ) (on : ℕ → List Offer) (last_of : (j : ℕ) (o : Offe
 
   way_distinct : ((j : ℕ) (o : Offer) → In o (on j) → Distinct (paths o)) → (js : List ℕ) {w : Offer} → Distinct js → Way t on js w → Distinct (paths w)
   unfolding paths
+  way_distinct h [] d r = elim r [ ]
   way_distinct h (j ∷ []) d (alone {o = o} k) = h j o k
   way_distinct h (j ∷ (i ∷ js)) d (beside {o = o} {w = w} k r c) =
       distinct_append (paths o) (paths w) (h j o k) (way_distinct h (i ∷ js) d.1 r) (λ q a b. apart d.0 k r a b)
@@ -60,6 +61,7 @@ module _ (t : List ℕ) (on : ℕ → List Offer) (last_of : (j : ℕ) (o : Offe
   way_determined : ((j : ℕ) (o p : Offer) → In o (on j) → In p (on j) → Within o p → o ≡ p)
       → (js : List ℕ) {v w : Offer} → Distinct js → Way t on js v → Way t on js w → Within v w → v ≡ w
   unfolding paths
+  way_determined h [] d r _ i = elim r [ ]
   way_determined h (j ∷ []) d (alone {o = o} k) (alone {o = p} l) i = h j o p k l i
   way_determined h (j ∷ (n ∷ js)) d (beside {o = o} {w = v} k r c) (beside {o = p} {w = w} l s b) i =
       ap₂ with
