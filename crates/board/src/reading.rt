@@ -20,7 +20,7 @@ use offers_over::Grown;
 use table::Table;
 
 // What sheet, pick, why and step are asked about: how many offers there are, and the number of ends or the refusal.
-#[derive(Drop)]
+#[derive(Clone, Copy)]
 pub struct LayAnswer {
     pub offers: usize,
     pub answer: EndsAnswer,

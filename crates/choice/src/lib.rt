@@ -1,5 +1,7 @@
 // A choice is a set of ends, written as rising one-byte numbers; in code it is a mask.
 // Assumes no more than its `requires`: at most 20 ends, and room for what is written.
+#![tactic(auto)]
+
 ghost use Rattle.std.specs.Prelude.{◌≡◌, ◌++◌, ◌≤◌, ◌<◌, length, drop};
 ghost use Rattle.paper.specs.Lists.{has};
 ghost use Rattle.paper.specs.Answers.{good};
@@ -8,7 +10,7 @@ ghost use Rattle.choice.specs.Choice.{said, choice_read, numbers};
 ghost use Rattle.paper.specs.Limits.{limits};
 
 // The set that was read, or the refusal's number and its place.
-#[derive(Drop)]
+#[derive(Clone, Copy)]
 pub enum ChoiceAnswer {
     Good(u32),
     Refused(u8, u8),

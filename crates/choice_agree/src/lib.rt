@@ -1,6 +1,8 @@
 // "Each destination agrees", asked of one choice: the lowest node that doesn't, if any. Edges, pins and nodes that are wrong mark the node that it is told of,
 // and the lowest mark is the answer. Ends are counted by the ones of mask and choice.
 // Assumes no more than its `requires`: slices that are long enough, and a table that was read.
+#![tactic(auto)]
+
 ghost use Rattle.std.specs.Prelude.{◌≡◌, Bool, ◌&&◌, ◌||◌, List, ℕ, ◌≤◌, ◌<◌, eqb, length};
 ghost use Rattle.std.specs.Int.Bits.{bit_and};
 ghost use Rattle.std.specs.Int.Count.{ones};
@@ -17,7 +19,7 @@ use ends_masks::Ends;
 use table::Table;
 
 // The lowest place that a search looks for.
-#[derive(Drop)]
+#[derive(Clone, Copy)]
 pub enum Found {
     At(u8),
     Nothing,

@@ -1,6 +1,8 @@
 // The rules on choices, asked of one choice: the first that refuses it, with its place. Rows that break a rule mark the node that it is told of, and the lowest
 // mark is the answer; whether destinations agree is asked in choice_agree.
 // Assumes no more than its `requires`: slices that are long enough, and a table that was read.
+#![tactic(auto)]
+
 ghost use Rattle.std.specs.Prelude.{◌≡◌, ◌&&◌, ℕ, ◌≤◌, ◌<◌, length, set};
 ghost use Rattle.std.specs.Int.Bits.{bit_or};
 ghost use Rattle.paper.specs.Lists.{at, has};
@@ -19,7 +21,7 @@ use offers::Offers;
 use table::Table;
 
 // Whether the choice is acceptable, or the refusal's number and its place.
-#[derive(Drop)]
+#[derive(Clone, Copy)]
 pub enum Judged {
     Fine,
     Refused(u8, u8),

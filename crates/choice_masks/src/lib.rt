@@ -1,5 +1,7 @@
 // Masks of ends: for each edge or node, the ends that have it in a column. A choice is a mask too, so the taken ones among them are the ones of both.
 // Assumes no more than its `requires`.
+#![tactic(auto)]
+
 ghost use Rattle.std.specs.Prelude.{◌≡◌, ◌^◌, ◌≤◌, ◌<◌, length, set};
 ghost use Rattle.std.specs.Int.Bits.{bit_or};
 ghost use Rattle.paper.specs.Lists.{at};

@@ -1,6 +1,8 @@
 // The ends of a board by value, each with what is asked of it, and masks of ends and words of rows by which the rules on choices are asked.
 // Loops take the columns of the ends as lent slices: a struct is copied at each call. Words and numbers only; what they mean for offers is said by the
 // laws. Assumes no more than its `requires`.
+#![tactic(auto)]
+
 ghost use Rattle.std.specs.Prelude.{◌≡◌, Bool, not, ◌&&◌, cond, ℕ, ◌+◌, ◌≤◌, ◌<◌, eqb, length};
 ghost use Rattle.std.specs.Int.Bits.{bit_and};
 ghost use Rattle.paper.specs.Lists.{at, has};
@@ -17,7 +19,7 @@ use table::Table;
 
 // The ends of a board, in order: each one's row of the offer list, its last edge, its target, the node that the target belongs to, and the words of its makers
 // and foes.
-#[derive(Drop)]
+#[derive(Clone, Copy)]
 pub struct Ends {
     pub row: [u8; MOST_ENDS],
     pub edge: [u8; MOST_ENDS],

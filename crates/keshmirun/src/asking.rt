@@ -15,7 +15,7 @@ use terms::TermsAnswer;
 
 // What is asked of the choices of a board: the pick for a node, the reason for a node, the step by a choice, or how many states the search for a node visits,
 // k levels past the first.
-#[derive(Drop)]
+#[derive(Clone, Copy)]
 pub enum Query {
     Pick(u8),
     Why(u8),
@@ -24,7 +24,7 @@ pub enum Query {
 }
 
 // The sheet, or what is asked of choices.
-#[derive(Drop)]
+#[derive(Clone, Copy)]
 pub enum Request {
     Sheet,
     Choice(Query),

@@ -1,5 +1,7 @@
 // The operations that the tablet app calls, over numbers and byte slices. Each takes its readers' answers apart and returns early with the first refusal.
 // Assumes nothing: what is lent is judged here.
+#![tactic(auto)]
+
 mod asking;
 
 ghost use Rattle.std.specs.Prelude.{[]};

@@ -1,5 +1,7 @@
 // Tries the paper's limits, each on both sides, and prints a line a case: how many of what are tried, then the refusal and its place, and of a reply what it says.
 // Assumes no more than its `requires`. The tables and the markings are made here; the file `stdout` has what the paper says of each case.
+#![tactic(auto)]
+
 ghost use Rattle.std.specs.Prelude.{◌≡◌, true, ◌+◌, ◌*◌, ◌%◌, ◌≤◌, length, drop, replicate};
 ghost use Rattle.paper.specs.Limits.{limits};
 ghost use Rattle.table.specs.Reading.{Holdable};

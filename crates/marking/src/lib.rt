@@ -1,5 +1,7 @@
 // Markings and value lists: read front to back; what is kept of them is where their values stand, and how many.
 // Functions that read a table's fields require that its bytes were read as a table.
+#![tactic(auto)]
+
 mod reading;
 mod values;
 

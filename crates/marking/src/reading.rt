@@ -14,7 +14,7 @@ use table::Table;
 use wire::wide;
 
 // The state of a good marking, or the refusal's number and its place.
-#[derive(Drop)]
+#[derive(Clone, Copy)]
 pub enum MarkingAnswer {
     Live,
     Ended,
@@ -23,7 +23,7 @@ pub enum MarkingAnswer {
 
 // What was read of a marking: of each node's field the place behind its first byte, and that byte, which is a stock's count or a running byte; of each edge
 // with a count the count.
-#[derive(Drop)]
+#[derive(Clone, Copy)]
 pub struct Fields {
     pub from: [u16; Table::MOST_NODES],
     pub kept: [u8; Table::MOST_NODES],
@@ -31,7 +31,7 @@ pub struct Fields {
 }
 
 // Where the bytes after a field start, or that the field isn't there.
-#[derive(Drop)]
+#[derive(Clone, Copy)]
 pub enum Next {
     At(usize),
     Bad,

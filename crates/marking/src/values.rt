@@ -11,7 +11,7 @@ use super::reading::{Next, stock_end};
 use table::Table;
 
 // That the lists are there, or the refusal's number and its place.
-#[derive(Drop)]
+#[derive(Clone, Copy)]
 pub enum ValuesAnswer {
     Good,
     Refused(u8, u8),

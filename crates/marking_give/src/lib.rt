@@ -1,5 +1,7 @@
 // Row 16, for start and finish alike: whether values that are appended to nodes fit, and tokens from the nodes that fire.
 // Functions that read a table's fields require that its bytes were read as a table.
+#![tactic(auto)]
+
 ghost use Rattle.std.specs.Prelude.{◌≡◌, ◌&&◌, ℕ, ◌≤◌, ◌<◌, leb, length};
 ghost use Rattle.paper.specs.Lists.{all, below};
 ghost use Rattle.paper.specs.Answers.{good};
@@ -12,14 +14,14 @@ use marking::has_count;
 use table::Table;
 
 // Which nodes have a list of values: those of a kind that belong to an owner.
-#[derive(Drop)]
+#[derive(Clone, Copy)]
 pub struct Listing {
     pub kind: usize,
     pub owner: usize,
 }
 
 // Which nodes hand out tokens: those of a kind, or one.
-#[derive(Drop)]
+#[derive(Clone, Copy)]
 pub enum Firing {
     Kind(usize),
     Node(usize),

@@ -1,6 +1,8 @@
 // A marking while it changes, in columns: which values of each stock stay and which come, what runs, and the counts (`Held`). What was read of a marking
 // has three of them (`held_of`), and of those an action that ends changes one.
 // Functions that read a table's fields require that its bytes were read as a table.
+#![tactic(auto)]
+
 ghost use Rattle.std.specs.Prelude.{◌≡◌, true, List, [], ℕ, ◌≤◌, ◌<◌, length};
 ghost use Rattle.paper.specs.Table.{kind, is_action};
 ghost use Rattle.paper.specs.Marking.{Marking};

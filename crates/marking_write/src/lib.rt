@@ -1,5 +1,7 @@
 // Writing a marking that is held in columns, which are lent: its size first, then its bytes, front to back (`MarkingHeld`). What stays is taken from the old
 // bytes, what comes from others, where all of it stands (`HeldInside`).
+#![tactic(auto)]
+
 ghost use Rattle.std.specs.Prelude.{◌≡◌, true, List, ℕ, ◌+◌, ◌*◌, ◌≤◌, ◌<◌, length};
 ghost use Rattle.std.proofs.lemmas.List.Edits.{sets};
 ghost use Rattle.paper.specs.Lists.{at, below, gather, one_if};
@@ -18,7 +20,7 @@ use marking::has_count;
 use table::Table;
 
 // What is held of one node.
-#[derive(Drop)]
+#[derive(Clone, Copy)]
 struct NodeHeld {
     pub from: u16,
     pub kept: u8,

@@ -1,4 +1,6 @@
 // Offers as numbered rows: what a row says, and how one is put at the end. Of the table it reads nothing.
+#![tactic(auto)]
+
 ghost use Rattle.std.specs.Prelude.{◌≡◌, true, List, [], ◌∷◌, ◌++◌, ℕ, ◌+◌, ◌%◌, ◌≤◌, ◌<◌, length};
 ghost use Rattle.paper.specs.Table.{is_join};
 ghost use Rattle.paper.specs.Offers.{Offer};
@@ -43,7 +45,7 @@ pub const MOST_ENDS: usize = 20;
 
 // The list of offers, by value, for those who judge and take ends: a row each, without what only ends are asked for, the numbers of paths, makers and foes, and
 // what paths go on from.
-#[derive(Drop)]
+#[derive(Clone, Copy)]
 pub struct Offers {
     pub last: [u8; MOST_OFFERS],
     pub node: [u8; MOST_OFFERS],
@@ -54,7 +56,7 @@ pub struct Offers {
 }
 
 // The edge that offers go onto, the node that it leaves, and that node's kind.
-#[derive(Drop)]
+#[derive(Clone, Copy)]
 pub struct Onto {
     pub edge: u8,
     pub node: u8,
@@ -62,7 +64,7 @@ pub struct Onto {
 }
 
 // What an offer carries: a token where `has` is 0, else the value.
-#[derive(Drop)]
+#[derive(Clone, Copy)]
 pub struct Worth {
     pub has: u64,
     pub value: u64,

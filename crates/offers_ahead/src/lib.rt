@@ -1,6 +1,8 @@
 // The look-ahead of a join: whether it is sure that no offer can be found for every edge that is still open.
 // Words and numbers only: offers are numbers below `count`, `edges[k]` is the word of the offers on edge k, `rivals[i]` that of the offers that
 // compete with offer i. Assumes no more than its `requires`.
+#![tactic(auto)]
+
 ghost use Rattle.std.specs.Prelude.{◌≡◌, true, ◌≤◌, ◌<◌, length};
 ghost use Rattle.offers_ahead.specs.Dead.{Dead, AheadRoom};
 ghost use Rattle.paper.specs.Limits.{limits};

@@ -1,5 +1,7 @@
 // The first offer on an edge that leaves no control node, from what was read of a marking: the stock of the edge's source, or the edge's count.
 // Reads the marking's bytes at the place it is told and assumes nothing of them; that the offer is the paper's is a law over what a marking holds.
+#![tactic(auto)]
+
 ghost use Rattle.std.specs.Prelude.{◌≡◌, ◌+◌, ◌≤◌, length};
 ghost use Rattle.paper.specs.Bytes.{word_at};
 ghost use Rattle.offers_first.specs.Starts.{start_code, FirstOffer};

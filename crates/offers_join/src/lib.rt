@@ -1,5 +1,7 @@
 // A join: the search for its ways, depth first with a look-ahead, each put at the end of the rows of offers.
 // Of the table it reads nothing but the lists of the edges into each node.
+#![tactic(auto)]
+
 ghost use Rattle.std.specs.Prelude.{◌≡◌, Bool, true, List, [], ◌∷◌, ◌++◌, ℕ, ◌+◌, ◌≤◌, ◌<◌, length, get_or};
 ghost use Rattle.std.proofs.Math.Option.{Option};
 ghost use Rattle.paper.specs.Lists.{each};
@@ -102,7 +104,7 @@ fn barred(rows: &[u64], count: usize, gate: Gate) -> u64
 }
 
 // What the offers taken at a join come to.
-#[derive(Drop)]
+#[derive(Clone, Copy)]
 struct Way {
     pub parents: u64,
     pub makers: u64,
@@ -271,7 +273,7 @@ fn join(
 }
 
 // What the edges into a join bring: offers on each of so many edges, or nothing that can be joined.
-#[derive(Drop)]
+#[derive(Clone, Copy)]
 enum Brought {
     OnEach(usize),
     Nothing,

@@ -1,5 +1,7 @@
 // Offers over an edge: what it lets over it, offers extended over it, and first offers on it, each put at the end of the rows.
 // Of the table it reads nothing but the lists of the edges into each node.
+#![tactic(auto)]
+
 ghost use Rattle.std.specs.Prelude.{◌≡◌, List, [], ◌∷◌, ◌++◌, ℕ, ◌+◌, ◌≤◌, ◌<◌, length};
 ghost use Rattle.paper.specs.Lists.{gather};
 ghost use Rattle.paper.specs.Table.{into};
@@ -18,7 +20,7 @@ use wire::wide;
 use words::bit_of;
 
 // What an edge lets over it: nothing unless it is open; and if bounds are listed for it, of values those from low to high.
-#[derive(Drop)]
+#[derive(Clone, Copy)]
 pub struct Gate {
     pub opened: bool,
     pub listed: bool,
@@ -47,7 +49,7 @@ pub fn admits(gate: Gate, h: u64, v: u64) -> bool
 
 // ---- offers extended, and first offers
 // The rows after a function that makes some, or the news that there are too many offers or paths.
-#[derive(Drop)]
+#[derive(Clone, Copy)]
 pub struct Grown {
     pub count: usize,
     pub ok: bool,
@@ -113,7 +115,7 @@ fn extend_all(rows: &mut [u64], count: usize, a: usize, b: usize, onto: Onto, ga
 }
 
 // What an edge carries at first: nothing for code 0, a token for 1, the value for 2.
-#[derive(Drop)]
+#[derive(Clone, Copy)]
 pub struct Start {
     pub code: u8,
     pub value: u32,

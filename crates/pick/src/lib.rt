@@ -1,5 +1,7 @@
 // pick on a board: the first acceptable choice, or the first that has an end of the named node, looked for and written.
 // Takes a board's offers, its ends and what is kept of a marking by value; what they mean is said of any board that stands in them (`Stands`).
+#![tactic(auto)]
+
 ghost use Rattle.std.specs.Prelude.{◌≡◌, true, ◌&&◌, ℕ, ◌+◌, ◌^◌, ◌≤◌, ◌<◌, leb, length};
 ghost use Rattle.paper.specs.Answers.{good};
 ghost use Rattle.paper.specs.Choices.{Board, how_many, acceptable};
@@ -19,7 +21,7 @@ use pick_search::ChoiceFound;
 use table::Table;
 
 // What the search is asked: a net of so many rules, and the ends that are wanted.
-#[derive(Drop)]
+#[derive(Clone, Copy)]
 pub struct Question {
     pub rules: usize,
     pub want: Wanted,

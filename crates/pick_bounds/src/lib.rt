@@ -1,5 +1,7 @@
 // Bounds on the sets of ends that pass a net of rules: drawn together rule by rule and by rivals, and never so that a set that passes is lost.
 // A net is a lent slice: the rivals of each of 20 ends, then each rule in four cells side by side. Assumes no more than its `requires`.
+#![tactic(auto)]
+
 ghost use Rattle.std.specs.Prelude.{◌≡◌, true, not, ◌&&◌, ℕ, ◌+◌, ◌-◌, ◌^◌, ◌≤◌, ◌<◌, leb, ltb, length};
 ghost use Rattle.paper.specs.Lists.{at, has, within};
 ghost use Rattle.pick_bounds.specs.Net.{held, meets, obeys, size, rule_at};
@@ -7,14 +9,14 @@ ghost use Rattle.pick_bounds.specs.Bounds.{good, apart, enough, heeds, Without, 
 ghost use Rattle.paper.specs.Limits.{limits};
 
 // At least so many of these ends are wanted; `least` is 0 where none is named.
-#[derive(Drop)]
+#[derive(Clone, Copy)]
 pub struct Wanted {
     pub ends: u32,
     pub least: u32,
 }
 
 // A set that meets `when` holds at least lo and at most hi of the ends in `only`.
-#[derive(Drop)]
+#[derive(Clone, Copy)]
 pub struct Rule {
     pub when: u32,
     pub only: u32,
@@ -23,7 +25,7 @@ pub struct Rule {
 }
 
 // What is known of the sets still looked for: they hold all of `must`, and nothing that isn't in `may`.
-#[derive(Drop)]
+#[derive(Clone, Copy)]
 pub struct Bounds {
     pub must: u32,
     pub may: u32,

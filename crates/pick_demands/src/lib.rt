@@ -1,5 +1,7 @@
 // What the rules of a net ask of the ends that are open between bounds, and whether more is asked for than can be had: than goes together, or than a rule
 // has room for. 'Hopeless' is sure; that it isn't said where nothing is left is no promise. Assumes no more than its `requires`.
+#![tactic(auto)]
+
 ghost use Rattle.std.specs.Prelude.{◌≡◌, Bool, true, ℕ, ◌≤◌, ◌<◌, length};
 ghost use Rattle.std.specs.Int.Bits.{bit_and};
 ghost use Rattle.paper.specs.Lists.{has};
@@ -11,21 +13,21 @@ ghost use Rattle.paper.specs.Limits.{limits};
 use pick_bounds::{Bounds, Rule, Wanted};
 
 // A group of rivals, and the ends that are rivals of all of them.
-#[derive(Drop)]
+#[derive(Clone, Copy)]
 struct Group {
     ends: u32,
     common: u32,
 }
 
 // At most so many of these ends may be had.
-#[derive(Drop)]
+#[derive(Clone, Copy)]
 struct Room {
     ends: u32,
     most: u32,
 }
 
 // What is seen between bounds: whether nothing is left there, and open ends of which so many are lacked, to be tried next. The ends are a hint.
-#[derive(Drop)]
+#[derive(Clone, Copy)]
 pub struct View {
     pub hopeless: bool,
     pub next: Wanted,

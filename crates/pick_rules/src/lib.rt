@@ -1,6 +1,8 @@
 // The rules on choices as a net in a lent slice: the rivals of each end, then a row for each row of the offer list that leaves a fork, for each edge into
 // an action and each pin and store that has an end, and one for all ends that can't be taken. A row that binds nothing is left out.
 // Words and numbers only: what they mean for offers is said by the laws of ends_masks. Assumes no more than its `requires`.
+#![tactic(auto)]
+
 ghost use Rattle.std.specs.Prelude.{◌≡◌, true, List, [], ◌∷◌, ℕ, ◌+◌, ◌-◌, ◌%◌, ◌^◌, ◌≤◌, ◌<◌, eqb, length, set};
 ghost use Rattle.paper.specs.Lists.{below};
 ghost use Rattle.paper.specs.Answers.{good};

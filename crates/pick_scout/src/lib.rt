@@ -1,5 +1,7 @@
 // Whether some set of ends between two bounds passes a net of rules: one is looked for where demands leave the fewest ways, so that what can't be served is
 // found out at once, however many ends stand before it. Assumes no more than its `requires`.
+#![tactic(auto)]
+
 ghost use Rattle.std.specs.Prelude.{◌≡◌, ◌+◌, ◌^◌, ◌≤◌, ◌<◌, length};
 ghost use Rattle.pick_bounds.specs.Bounds.{good};
 ghost use Rattle.pick_scout.specs.Scouting.{said, seen, Hinted, Scouted};
@@ -8,14 +10,14 @@ ghost use Rattle.paper.specs.Limits.{limits};
 use pick_bounds::{Bounds, Wanted};
 
 // What a search found, or ends to blame that could not be had, and how many states it visited.
-#[derive(Drop)]
+#[derive(Clone, Copy)]
 pub enum Visit {
     Choice(u32, usize),
     Nothing(u32, usize),
 }
 
 // What guides a search, and nothing relies on: a set in view, and ends that could not be had.
-#[derive(Drop)]
+#[derive(Clone, Copy)]
 pub struct Hint {
     pub ends: u32,
     pub blame: u32,

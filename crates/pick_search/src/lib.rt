@@ -1,5 +1,7 @@
 // The first set of ends that passes a net of rules. The search recurses on the number of ends still open, first choice first, and knows nothing but
 // the net and the ends that are wanted. What makes it fast is pruning, and scouting. Assumes no more than its `requires`.
+#![tactic(auto)]
+
 ghost use Rattle.std.specs.Prelude.{◌≡◌, Bool, true, false, cond, ℕ, ◌+◌, ◌%◌, ◌^◌, ◌≤◌, ◌<◌, length};
 ghost use Rattle.std.proofs.Math.Option.{none, some};
 ghost use Rattle.paper.specs.Lists.{has};
@@ -15,14 +17,14 @@ use pick_bounds::{Bounds, Wanted};
 use pick_scout::{Hint, Visit};
 
 // The first set that passes, or that none does.
-#[derive(Drop)]
+#[derive(Clone, Copy)]
 pub enum ChoiceFound {
     Choice(u32),
     Nothing,
 }
 
 // Where the search is: the weight of the first open end, and the ends taken before it.
-#[derive(Drop)]
+#[derive(Clone, Copy)]
 struct Place {
     bit: u32,
     taken: u32,
@@ -40,7 +42,7 @@ fn step(p: Place, end: u32) -> Place
 }
 
 // Where the search goes on, and how many ends are open there.
-#[derive(Drop)]
+#[derive(Clone, Copy)]
 struct Spot {
     left: usize,
     place: Place,

@@ -1,5 +1,7 @@
 // Ends that can change places: no rule, no rival and no wish tells them apart, so that where one can't be had the others can't either.
 // That not all such ends are found is no promise broken. Assumes no more than its `requires`.
+#![tactic(auto)]
+
 ghost use Rattle.std.specs.Prelude.{◌≡◌, true, ℕ, ◌^◌, ◌≤◌, ◌<◌, length};
 ghost use Rattle.paper.specs.Lists.{has};
 ghost use Rattle.pick_bounds.specs.Net.{size, rule_at};

@@ -1,5 +1,7 @@
 // The ends that belong to a node, as a word, and what a named node wants of a choice.
 // Words and numbers only: what they mean for offers is said by the laws of seating. Assumes no more than its `requires`.
+#![tactic(auto)]
+
 ghost use Rattle.std.specs.Prelude.{◌≡◌, not, ◌||◌, ℕ, ◌≤◌, leb, eqb, length};
 ghost use Rattle.paper.specs.Lists.{at};
 ghost use Rattle.paper.specs.Operations.{named};

@@ -1,6 +1,8 @@
 // The program `sheet`: reads a table, a marking and guards, one after another, and prints the ends on offer and the pick, or the refusal.
 // `describe` makes the text, and its promise is the paper's (`PrintsFor`): for an input however long, if what it is lent is what is read of it (`read_of`).
 // That just this is read, and that the text is printed, no contract can say.
+#![tactic(auto)]
+
 ghost use Rattle.std.specs.Prelude.{◌≡◌, List, ℕ, ◌≤◌, length, take};
 ghost use Rattle.paper.specs.Offers.{terms, no_bounds};
 ghost use Rattle.paper.specs.Program.{most_input, read_of, PrintsFor};

@@ -1,5 +1,7 @@
 // Numbers in decimal, and lists of them, written into a lent slice. Each function answers the place behind what it wrote.
 // Assumes no more than its `requires`: every function asks for the room that it needs.
+#![tactic(auto)]
+
 ghost use Rattle.std.specs.Prelude.{◌∷◌, ◌+◌, ◌*◌, ◌≤◌, ◌<◌, length, take, drop};
 ghost use Rattle.paper.specs.Program.{digits, decimal, commas};
 ghost use Rattle.sheet_numbers.specs.Written.{Written};

@@ -1,5 +1,7 @@
 // The text of the program `sheet`: a board's ends line by line, and the pick; or a refusal. Text goes into a lent slice, front to back.
 // The sheet's bytes are read record by record: what is lent is the sheet of a board (`Sheet`), so every record lies inside.
+#![tactic(auto)]
+
 ghost use Rattle.std.specs.Prelude.{◌≡◌, ◌+◌, ◌*◌, ◌≤◌, ◌<◌, length};
 ghost use Rattle.paper.specs.Lists.{at};
 ghost use Rattle.paper.specs.Program.{board_text, refusal_text};
@@ -29,7 +31,7 @@ const MANY: usize = 6;
 const PATHS: usize = 7;
 
 // The places behind what was read of a sheet and what was written of a text.
-#[derive(Drop)]
+#[derive(Clone, Copy)]
 struct Places {
     read: usize,
     written: usize,

@@ -1,5 +1,7 @@
 // Writing a sheet: its size first, then its bytes, front to back.
 // Rows, ends and paths stand in lent slices, which hold what is read of them (`Measured`, `Shows`).
+#![tactic(auto)]
+
 ghost use Rattle.std.specs.Prelude.{◌≡◌, ◌++◌, ℕ, ◌+◌, ◌≤◌, ◌<◌, length, drop};
 ghost use Rattle.std.proofs.lemmas.List.Edits.{sets};
 ghost use Rattle.paper.specs.Lists.{at, below, gather};

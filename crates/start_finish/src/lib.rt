@@ -1,5 +1,7 @@
 // start and finish on a table that was read: the marking taken up, the action that ends, the lists of values appended, the tokens handed out and the
 // reply written. What was read of the marking stands in columns, which are lent (`Deliverable`, `LiveMarking`).
+#![tactic(auto)]
+
 ghost use Rattle.std.specs.Prelude.{◌≡◌, true, ℕ, ◌≤◌, ◌<◌, eqb, length};
 ghost use Rattle.paper.specs.Lists.{at, one_if};
 ghost use Rattle.paper.specs.Answers.{good, need};
@@ -62,7 +64,7 @@ fn deliver(
 }
 
 // What asking for a running action answers: nothing but that it runs, or the refusal's number and its place.
-#[derive(Drop)]
+#[derive(Clone, Copy)]
 enum RunningAnswer {
     Good,
     Refused(u8, u8),

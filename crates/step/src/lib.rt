@@ -1,6 +1,8 @@
 // A step on a board that was read: the choice read and judged, and the marking that it makes written. First offers are spent, then destinations gain, and an
 // end at an activity final ends the marking. What was read of the marking and the board's offers and ends are given by value (`Standing`); the stages take the
 // columns that they change lent.
+#![tactic(auto)]
+
 ghost use Rattle.std.specs.Prelude.{◌≡◌, length};
 ghost use Rattle.paper.specs.Answers.{good};
 ghost use Rattle.paper.specs.Operations.{Reply, in_room};

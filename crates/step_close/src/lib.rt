@@ -1,6 +1,8 @@
 // "If an end at an activity final is taken, the marking is ended after that: outgoing parameters keep all, the rest is cleared."
 // The columns of the marking that are changed are lent.
 // Functions that read a table's fields require that its bytes were read as a table.
+#![tactic(auto)]
+
 ghost use Rattle.std.specs.Prelude.{◌≡◌, ◌&&◌, ℕ, ◌≤◌, ◌<◌, length};
 ghost use Rattle.paper.specs.Lists.{at, has, one_if};
 ghost use Rattle.paper.specs.Limits.{limits};

@@ -1,6 +1,8 @@
 // "Then destinations gain, in end order: values append to pins, buffers and parameters, and actions run. Finals drop what arrives."
 // The values that come to a node stand one behind another in a slice of their own. A final has no stock, so nobody looks at what came to it.
 // The nodes at which something is taken are marked first, and only they are asked. The columns of the ends are lent, and those of the marking that are changed.
+#![tactic(auto)]
+
 ghost use Rattle.std.specs.Prelude.{◌≡◌, Bool, not, ◌&&◌, ◌||◌, cond, ℕ, ◌+◌, ◌*◌, ◌≤◌, ◌<◌, eqb, length};
 ghost use Rattle.std.proofs.lemmas.List.Edits.{sets};
 ghost use Rattle.paper.specs.Lists.{at, has, gather};

@@ -2,6 +2,8 @@
 // The makers of taken ends are given as a word of rows; a row is a first offer if it was made from none. What is spent is marked once, a byte an edge.
 // Columns of the offers are lent, and those of the marking that are changed.
 // Functions that read a table's fields require that its bytes were read as a table.
+#![tactic(auto)]
+
 ghost use Rattle.std.specs.Prelude.{◌≡◌, Bool, not, ◌&&◌, cond, ℕ, ◌+◌, ◌-◌, ◌≤◌, ◌<◌, eqb, length};
 ghost use Rattle.paper.specs.Lists.{has};
 ghost use Rattle.paper.specs.Limits.{limits};

@@ -1,5 +1,7 @@
 // A table's bytes by their fields: the counts of a table, accessors that every reader goes by, and the edges into each node as lists.
 // Assumes no more than its `requires`: functions that read fields ask that the bytes span the counts (`Spans`).
+#![tactic(auto)]
+
 ghost use Rattle.std.specs.Prelude.{◌≡◌, ◌||◌, List, ℕ, ◌≤◌, ◌<◌, length};
 ghost use Rattle.paper.specs.Lists.{within};
 ghost use Rattle.paper.specs.Table.{header, nodes, edges, node_at, edge_at, kind, owner, lower, upper, edge_kind, source, target, guarded};
@@ -8,28 +10,28 @@ ghost use Rattle.table.specs.Reading.{Spans};
 ghost use Rattle.table.specs.Incoming.{Incoming, Listable};
 
 // The counts of a table, whose bytes stand beside it.
-#[derive(Drop)]
+#[derive(Clone, Copy)]
 pub struct Table {
     pub nodes: usize,
     pub edges: usize,
 }
 
 // How many nodes and edges a table may have.
-#[derive(Drop)]
+#[derive(Clone, Copy)]
 pub struct Limits {
     pub nodes: usize,
     pub edges: usize,
 }
 
 // The counts of a good table, or the refusal's number and its place.
-#[derive(Drop)]
+#[derive(Clone, Copy)]
 pub enum TableAnswer {
     Good(Table),
     Refused(u8, u8),
 }
 
 // The lowest place that a search looks for.
-#[derive(Drop)]
+#[derive(Clone, Copy)]
 pub enum Found {
     At(usize),
     Nothing,

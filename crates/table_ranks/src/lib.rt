@@ -1,5 +1,7 @@
 // The rank of each node: how many control nodes the longest chain has that ends there. Row 4 asks for it, and those who build offers go by it.
 // Assumes that the bytes span the counts and edges have nodes at their ends (`Framed`).
+#![tactic(auto)]
+
 ghost use Rattle.std.specs.Prelude.{◌≡◌, false, ℕ, ◌+◌, ◌≤◌, ◌<◌, length};
 ghost use Rattle.paper.specs.Limits.{limits};
 ghost use Rattle.paper.specs.Table.{edges};

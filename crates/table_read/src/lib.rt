@@ -1,5 +1,7 @@
 // Reading a table: rows 1 to 4 of the paper's table of refusals.
 // `read` assumes nothing. Functions that read fields require that the bytes span the counts (`Spans`), which it makes sure of first.
+#![tactic(auto)]
+
 ghost use Rattle.std.specs.Prelude.{◌≡◌, not, ◌&&◌, cond, ◌<◌, leb, ltb, eqb};
 ghost use Rattle.paper.specs.Lists.{lowest, within};
 ghost use Rattle.paper.specs.Limits.{limits};

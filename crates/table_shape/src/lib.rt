@@ -1,5 +1,7 @@
 // Row 4: the shape of a table. Edges are counted and nodes ranked once, and each node is judged from its own cells.
 // Assumes that the bytes span the counts, and that rows 2 and 3 passed where a function says so.
+#![tactic(auto)]
+
 ghost use Rattle.std.specs.Prelude.{◌≡◌, false, not, ◌&&◌, List, ℕ, ◌+◌, ◌*◌, ◌≤◌, ◌<◌, leb, eqb, length, set};
 ghost use Rattle.paper.specs.Lists.{at, lowest, one_if};
 ghost use Rattle.paper.specs.Limits.{limits};
@@ -12,14 +14,14 @@ use table::{Found, Table, is_control_node};
 use words::mark;
 
 // How many edges of each kind stand on one side of a node.
-#[derive(Drop)]
+#[derive(Clone, Copy)]
 struct Side {
     control: u8,
     object: u8,
 }
 
 // The two sides of a node.
-#[derive(Drop)]
+#[derive(Clone, Copy)]
 struct Degrees {
     into: Side,
     out: Side,

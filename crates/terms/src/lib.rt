@@ -1,5 +1,7 @@
 // What a call says of the edges of its table: guards (row 7) and bounds (row 18) read, and the gate that they make of each edge.
 // The table's bytes were read as a table; what is lent for guards and bounds may be anything.
+#![tactic(auto)]
+
 mod bounds;
 mod guards;
 
@@ -14,7 +16,7 @@ use offers_over::Gate;
 use table::Table;
 
 // What reading guards and bounds answers: nothing but that they are fine, or the refusal's number and its place.
-#[derive(Drop)]
+#[derive(Clone, Copy)]
 pub enum TermsAnswer {
     Good,
     Refused(u8, u8),

@@ -4,6 +4,8 @@
 // slices, each a 2-byte length and its bytes: table, marking, guards or values, bounds, choice. What an operation doesn't take is empty. A line is the refusal, the place and the reply in hex, `-` where it is empty.
 // visits takes what pick does, and its line is `visits` and how many states the search visits: a search that gets worse is seen here. levels does too, and its
 // line is `levels` and how many states the search of why visits at each of the four levels before the last.
+#![tactic(auto)]
+
 ghost use Rattle.std.specs.Prelude.{◌≤◌, ◌<◌, length};
 
 use libc::{STDIN_FILENO, STDOUT_FILENO};

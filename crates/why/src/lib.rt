@@ -1,6 +1,8 @@
 // why on a board: the first level at which no choice is left for a node, and that byte written.
 // Takes a board's offers, its ends and what is kept of a marking by value; what they mean is said of any board that stands in them (`OnBoard`). A level is asked as
 // pick is, of a net with the rules of the levels up to it.
+#![tactic(auto)]
+
 ghost use Rattle.std.specs.Prelude.{◌≡◌, cond, ◌&&◌, [], ◌∷◌, ℕ, suc, ◌+◌, ◌^◌, ◌≤◌, ◌<◌, leb, eqb, length};
 ghost use Rattle.paper.specs.Limits.{limits};
 ghost use Rattle.paper.specs.Answers.{good};

@@ -1,5 +1,7 @@
 // Words that stand for sets of offers or of ends: a digit of a word, and whether two offers clash, as their nodes and words say.
 // And marks, a byte a place, by which a pass hands on what it found. Assumes no more than its `requires`.
+#![tactic(auto)]
+
 ghost use Rattle.std.specs.Prelude.{◌≡◌, ◌<◌, ◌^◌};
 ghost use Rattle.paper.specs.Lists.{has};
 ghost use Rattle.paper.specs.Table.{is_object_node};
