@@ -1,0 +1,154 @@
+-- `ends::collect` meets its contract: the loop has found the rows of the edges below e, with their keys. Assumes nothing.
+use mathlib.Core.Path.{◌≡◌, sym, ap, ◌∙◌}
+use mathlib.Core.Logic.{⊎_elim}
+use Prim.Native.Nat.{◌-◌, ◌<◌}
+use native.Mathlib.Omega.{arith}
+use borrow.Author.Tests.{not-true, not-false}
+use borrow.Author.Rules.{rules}
+use Rattle.paper.specs.Table.{edges, kind, is_control_node}
+use Rattle.table.proofs.Reading.{read-spans, edges_most, target-node}
+use Rattle.ends.specs.Slots.{end_rows}
+use Rattle.ends.proofs.Found.{rows_none, rows_skip, rows_more, rows-many, keyed-more, rising_none, rising_skip, rising-more, key-is}
+use Rattle.ends.proofs.collect.Goals as goal
+
+pub loop-e-init : goal.loop-e-init
+loop-e-init c =
+    let a = c.args in
+    (search rules, (sym (rows_none a.t.now a.from.now a.to.now), (λ s l. absurd (omega arith), rising_none a.keys.now)))
+
+pub target-node-requires : goal.target-node-requires
+target-node-requires c = let p = c.requires.0 in (read-spans c.args.t.now p, omega arith)
+
+pub kind-requires : goal.kind-requires
+kind-requires c =
+    let t = c.args.t.now in
+    let p = c.requires.0 in
+    (read-spans t p, omega (arith, c.target-node.ensures.0, target-node t p c.loop-e.e (omega arith)))
+
+pub bounds-from-e : goal.bounds-from-e
+bounds-from-e c =
+    omega (arith, edges_most c.args.t.now c.requires.0)
+
+pub bounds-to-e : goal.bounds-to-e
+bounds-to-e c =
+    omega (arith, edges_most c.args.t.now c.requires.0)
+
+pub overflow_sub-b : goal.overflow_sub-b
+overflow_sub-b c = omega (arith, c.wide-b.ensures.0, c.wide-a.ensures.0, (c.requires.1.0.0 c.loop-e.e).0)
+
+pub shape_of-found-then-n-b-gt-MOST_ENDS : goal.shape_of-found-then-n-b-gt-MOST_ENDS
+shape_of-found-then-n-b-gt-MOST_ENDS c = omega (arith, c.loop-e.invariant, c.if-n-b-gt-MOST_ENDS.true)
+
+pub shape_of-keys-then-n-b-gt-MOST_ENDS : goal.shape_of-keys-then-n-b-gt-MOST_ENDS
+shape_of-keys-then-n-b-gt-MOST_ENDS c = omega (arith, c.loop-e.invariant, c.if-n-b-gt-MOST_ENDS.true)
+
+pub returns-then-n-b-gt-MOST_ENDS : goal.returns-then-n-b-gt-MOST_ENDS
+returns-then-n-b-gt-MOST_ENDS c =
+    let a = c.args in
+    let p = c.requires in
+    let l = c.loop-e in
+    let s = read-spans a.t.now p.0 in
+    let is = ap is_control_node (c.kind.ensures.0 ∙ ap (kind a.t.now) c.target-node.ensures.0) in
+    let ends_here = sym is ∙ sym c.is_control_node.ensures ∙ not-true _ c.if-not-is_control_node.true in
+    record {
+      good = λ h. absurd (omega arith);
+      keyed = λ h. absurd (omega arith);
+      grouped = λ h. absurd (omega arith);
+      many = λ h. rows-many a.t.now a.from.now a.to.now l.found l.n l.e l.invariant.1.0 ends_here
+          (edges a.t.now) (omega arith) (omega (arith, c.wide-b.ensures.0, c.wide-a.ensures.0));
+    }
+
+pub overflow_mul-node : goal.overflow_mul-node
+overflow_mul-node c =
+    let parts-small : (c.target-node.result < 256) × (c.loop-e.e < 256) =
+      let few = edges_most c.args.t.now c.requires.0 in
+      (omega (arith, c.target-node.ensures.1), omega arith) in
+    omega (arith, parts-small)
+
+pub overflow_add-node : goal.overflow_add-node
+overflow_add-node c =
+    let parts-small : (c.target-node.result < 256) × (c.loop-e.e < 256) =
+      let few = edges_most c.args.t.now c.requires.0 in
+      (omega (arith, c.target-node.ensures.1), omega arith) in
+    omega (arith, parts-small)
+
+pub overflow_cast-node : goal.overflow_cast-node
+overflow_cast-node c =
+    let parts-small : (c.target-node.result < 256) × (c.loop-e.e < 256) =
+      let few = edges_most c.args.t.now c.requires.0 in
+      (omega (arith, c.target-node.ensures.1), omega arith) in
+    omega (arith, parts-small)
+
+pub add_rows-requires : goal.add_rows-requires
+add_rows-requires c =
+    let q = c.requires.1.0.0 c.loop-e.e in
+    let x = c.wide-a.ensures.0 in
+    let y = c.wide-b.ensures.0 in
+    ((omega arith, omega arith), (omega (arith, c.if-n-b-gt-MOST_ENDS.false), omega (arith, c.if-n-b-gt-MOST_ENDS.false)))
+
+pub overflow_sub-n : goal.overflow_sub-n
+overflow_sub-n c =
+    omega (arith, c.wide-b.ensures.0, c.wide-a.ensures.0, (c.requires.1.0.0 c.loop-e.e).0)
+
+pub overflow_add-n-then-not-is_control_node : goal.overflow_add-n-then-not-is_control_node
+overflow_add-n-then-not-is_control_node c = omega (arith, c.requires)
+
+pub overflow_add-e : goal.overflow_add-e
+overflow_add-e c = omega (arith, c.loop-e.invariant, c.loop-e-test.true)
+
+pub loop-e-smaller : goal.loop-e-smaller
+loop-e-smaller c = omega arith
+
+pub loop-e-preserved : goal.loop-e-preserved
+loop-e-preserved c =
+    let a = c.args in
+    let p = c.requires in
+    let l = c.loop-e in
+    let v = c.target-node in
+    let is = ap is_control_node (c.kind.ensures.0 ∙ ap (kind a.t.now) v.ensures.0) in
+    let s = c.is_control_node.ensures in
+    let few = edges_most a.t.now p.0 in
+    let there = read-spans a.t.now p.0 in
+    let q = p.1.0.0 l.e in
+    let key = key-is a.t.now v.result l.e v.ensures.0 in
+    let skip = rows_skip a.t.now a.from.now a.to.now l.found l.n l.e l.invariant.1.0 in
+    ⊎_elim
+    (λ w. (
+      ((search rules, rw w.15 (omega (arith, w.5.left))), (rw w.13 (omega (arith, w.8.kept)), rw w.14 (omega (arith, w.8.kept)))),
+      (
+        rw (w.13, w.15) (rows_more a.t.now a.from.now a.to.now l.found l.n l.e l.invariant.1.0
+            (sym is ∙ sym s ∙ not-true _ w.0.taken) w.2.ensures.0 w.4.ensures.0 w.8.ensures),
+        (
+          rw (w.13, w.14, w.15) (keyed-more w.8.ensures l.e (omega arith) (omega arith) w.2.ensures.0
+              (omega (arith, w.2.ensures.0, w.4.ensures.0)) key l.invariant.1.1.0),
+          rw (w.14, w.15) (rising-more w.8.ensures (omega arith) l.invariant.1.1.1),
+        ),
+      ),
+    ))
+    (λ w. (
+      ((search rules, rw w.3 (omega arith)), (rw w.1 (omega arith), rw w.2 (omega arith))),
+      (
+        rw (w.1, w.3) (skip (sym is ∙ sym s ∙ not-false _ w.0.left)),
+        (rw (w.1, w.2, w.3) l.invariant.1.1.0, rw (w.2, w.3) (rising_skip l.invariant.1.1.1)),
+      ),
+    ))
+    c.if-not-is_control_node.branch
+
+pub shape_of-found : goal.shape_of-found
+shape_of-found c = omega (arith, c.loop-e-test.false)
+
+pub shape_of-keys : goal.shape_of-keys
+shape_of-keys c = omega (arith, c.loop-e-test.false)
+
+pub returns : goal.returns
+returns c =
+    let a = c.args in
+    let l = c.loop-e in
+    let s = read-spans a.t.now c.requires.0 in
+    let e : l.e ≡ edges a.t.now = omega arith in
+    record {
+      good = λ h. l.invariant.1.0 ∙ ap (end_rows a.t.now a.from.now a.to.now) e;
+      keyed = λ h. l.invariant.1.1.0;
+      grouped = λ h. l.invariant.1.1.1.grouped;
+      many = λ h. absurd (omega arith);
+    }

@@ -1,0 +1,64 @@
+-- `ask`: row after row, each by what its reader answers, and what is asked of the board. Assumes nothing.
+use mathlib.Core.Path.{sym, ap, ◌∙◌}
+use native.Mathlib.Omega.{arith}
+use Rattle.paper.specs.Offers.{terms}
+use Rattle.table.proofs.Reading.{read-spans, read-good, nodes_most, edges_most}
+use Rattle.terms.specs.Terms.{said}
+use Rattle.marking_held.specs.MarkingHeld.{Held, LiveMarking, held_of}
+use Rattle.marking_held.proofs.HeldLaws.{lengths_up, live_up}
+use Rattle.board.proofs.Ladder.{board_5, board_6, board-terms}
+use Rattle.keshmirun.proofs.Requests.{asked_refused}
+use Rattle.keshmirun.proofs.asking.ask.Goals as goal
+
+pub read-requires : goal.read-requires
+read-requires c =
+    let t = c.args.t.now in
+    (c.requires, nodes_most t c.requires, nodes_most t c.requires, edges_most t c.requires)
+
+pub returns-in-Ended : goal.returns-in-Ended
+returns-in-Ended c =
+    let a = c.args in
+    let w = c.read.new.1.1.1 in
+    asked_refused a.t.now a.b.now (terms a.g.now a.bounds.now) a.choice.now a.request 6 0 c.pack.result a.out.now
+    (board_6 a.t.now a.b.now a.g.now a.bounds.now c.requires w.0 w.1.0 w.1.1.0 c.read.result c.read.ensures c.in-Ended.is) c.pack.ensures
+
+pub returns-in-Refused : goal.returns-in-Refused
+returns-in-Refused c =
+    let a = c.args in
+    let w = c.read.new.1.1.1 in
+    asked_refused a.t.now a.b.now (terms a.g.now a.bounds.now) a.choice.now a.request _ _ c.pack-in-Refused.result a.out.now
+    (board_5 a.t.now a.b.now a.g.now a.bounds.now c.requires w.0 w.1.0 w.1.1.0 c.read.result c.read.ensures _ _ c.in-Refused.is) c.pack-in-Refused.ensures
+
+pub read-requires-2 : goal.read-requires-2
+read-requires-2 c = read-spans _ c.requires
+
+pub returns-in-Refused-read : goal.returns-in-Refused-read
+returns-in-Refused-read c =
+    let held_then : Held =
+      let w = c.read.last.1.1.1 in held_of w.0 w.1.0 w.1.1.0 in
+    let live_then : LiveMarking c.args.t.now c.args.b.now held_then =
+      let t = c.args.t.now in
+      let b = c.args.b.now in
+      let r = c.read in
+      let w = r.last.1.1.1 in
+      let n = lengths_up w.0 w.1.0 w.1.1.0 (omega (arith, r.kept)) (omega (arith, r.kept)) (omega (arith, r.kept)) in
+      live_up t b w.0 w.1.0 w.1.1.0 r.result r.ensures (read-good t c.requires) n c.in-Live.is in
+    let a = c.args in
+    asked_refused a.t.now a.b.now (terms a.g.now a.bounds.now) a.choice.now a.request _ _ c.pack-in-Refused-read.result a.out.now
+    (board-terms a.t.now a.b.now a.g.now a.bounds.now c.requires (live_then) _ _ (sym (ap said c.in-Refused-read.is) ∙ c.read-2.ensures)) c.pack-in-Refused-read.ensures
+
+pub respond-requires : goal.respond-requires
+respond-requires c =
+    let held_then : Held =
+      let w = c.read.last.1.1.1 in held_of w.0 w.1.0 w.1.1.0 in
+    let live_then : LiveMarking c.args.t.now c.args.b.now held_then =
+      let t = c.args.t.now in
+      let b = c.args.b.now in
+      let r = c.read in
+      let w = r.last.1.1.1 in
+      let n = lengths_up w.0 w.1.0 w.1.1.0 (omega (arith, r.kept)) (omega (arith, r.kept)) (omega (arith, r.kept)) in
+      live_up t b w.0 w.1.0 w.1.1.0 r.result r.ensures (read-good t c.requires) n c.in-Live.is in
+    (c.requires, live_then, sym (sym (ap said c.in_default.is) ∙ c.read-2.ensures))
+
+pub returns : goal.returns
+returns c = c.respond.ensures

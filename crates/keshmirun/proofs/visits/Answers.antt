@@ -1,0 +1,18 @@
+-- `visits`: the table's refusals, then how far the search at a level goes on the board. Assumes nothing.
+use mathlib.Core.Path.{sym, ap, ◌∙◌}
+use Rattle.paper.specs.Offers.{terms}
+use Rattle.table.specs.Reading.{said}
+use Rattle.keshmirun.specs.declared.asking.Request.TheVariants.{Choice}
+use Rattle.keshmirun.specs.declared.asking.Query.TheVariants.{Count}
+use Rattle.keshmirun.proofs.Requests.{table-refused}
+use Rattle.keshmirun.proofs.visits.Goals as goal
+
+pub returns-in-Refused : goal.returns-in-Refused
+returns-in-Refused c = let a = c.args in
+    (table-refused a.table.now a.marking.now (terms a.guards.now a.bounds.now) [] (Choice (Count a.node a.k)) _ _ c.pack.result [] (sym c.read.ensures ∙ ap said c.in-Refused.is) c.pack.ensures).0
+
+pub ask-requires : goal.ask-requires
+ask-requires c = sym c.read.ensures ∙ ap said c.in-Good.is
+
+pub returns : goal.returns
+returns c = c.ask.ensures.0

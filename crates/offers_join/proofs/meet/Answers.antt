@@ -1,0 +1,118 @@
+-- `offers_join::meet` meets its contract: the search starts with nothing taken and the barred offers blocked. Assumes nothing.
+use mathlib.Core.Path.{refl, subst}
+use mathlib.Core.List.{List, ◌++◌}
+use Prim.Native.Nat.{ℕ, ◌≤◌}
+use native.Mathlib.Omega.{arith}
+use lib.ListN.{get_or}
+use borrow.Author.Rules.{rules}
+use Rattle.paper.specs.Lists.{each}
+use Rattle.paper.specs.Limits.{limits}
+use Rattle.paper.specs.Table.{into}
+use Rattle.table.specs.Incoming.{ListFrom}
+use Rattle.table.proofs.Incoming.{some-list}
+use Rattle.offers.specs.Rows.{rows_in, Ranges}
+use Rattle.offers_over.specs.Over.{admitted, Outcome}
+use Rattle.offers_over.proofs.Outcomes.{is_held}
+use Rattle.offers_join.specs.Joins.{Within, Served}
+use Rattle.offers_join.proofs.Meetings.{listed-within, brings_each, brings_nothing, meeting_none, meeting_ways, meeting_dfs}
+use Rattle.offers_join.proofs.meet.Goals as goal
+
+pub returns-in-Nothing : goal.returns-in-Nothing
+returns-in-Nothing c =
+    let a = c.args in (
+      search rules,
+      λ t ts on y.
+          let nothing = brings_nothing a.from.now a.to.now _ _ _ c.incoming.result (c.incoming.ensures _ y.list) c.in-Nothing.is in
+          is_held refl (meeting_none y nothing) y.holds_ts,
+    )
+
+pub spans-wanted-requires : goal.spans-wanted-requires
+spans-wanted-requires c =
+    let number : ℕ =
+      c.in-OnEach.d in
+    let lo : List ℕ =
+      c.incoming.new.1.1.1.1.1.0 in
+    let hi : List ℕ =
+      c.incoming.new.1.1.1.1.1.1.0 in
+    let Into : List ℕ → Type 0 =
+      λ js. let a = c.args in ListFrom a.next.now (get_or a.first.now a.onto.node 0) js in
+    let served : (js : List ℕ) → Into js → (let a = c.args in Served a.from.now a.to.now js lo hi number) =
+      λ js h. let a = c.args in
+      let i = c.incoming in
+      brings_each a.from.now a.to.now js lo hi i.result (i.ensures js h) number c.in-OnEach.is in
+    let some : (js : List ℕ) × Into js =
+      let a = c.args in some-list a.next.now (get_or a.first.now a.onto.node 0) c.requires.1.forward in
+    let few : number ≤ limits.most_offers =
+      (served some.0 some.1).few in
+    let parts : (n : ℕ) → (let a = c.args in Ranges a.from.now a.to.now n) → Within lo hi number n =
+      λ n r. let a = c.args in listed-within a.from.now a.to.now some.0 lo hi number n (served some.0 some.1).segments r in
+    let a = c.args in
+    let pr = c.requires in (
+      (omega (arith, c.incoming.kept, few), omega (arith, c.incoming.kept, few)),
+      (few, parts limits.most_offers (λ j. ((pr.0.parts j).0, omega (arith, (pr.0.parts j).1, pr.0.few)))),
+    )
+
+pub join-requires : goal.join-requires
+join-requires c =
+    let number : ℕ =
+      c.in-OnEach.d in
+    let lo : List ℕ =
+      c.incoming.new.1.1.1.1.1.0 in
+    let hi : List ℕ =
+      c.incoming.new.1.1.1.1.1.1.0 in
+    let Into : List ℕ → Type 0 =
+      λ js. let a = c.args in ListFrom a.next.now (get_or a.first.now a.onto.node 0) js in
+    let served : (js : List ℕ) → Into js → (let a = c.args in Served a.from.now a.to.now js lo hi number) =
+      λ js h. let a = c.args in
+      let i = c.incoming in
+      brings_each a.from.now a.to.now js lo hi i.result (i.ensures js h) number c.in-OnEach.is in
+    let some : (js : List ℕ) × Into js =
+      let a = c.args in some-list a.next.now (get_or a.first.now a.onto.node 0) c.requires.1.forward in
+    let few : number ≤ limits.most_offers =
+      (served some.0 some.1).few in
+    let parts : (n : ℕ) → (let a = c.args in Ranges a.from.now a.to.now n) → Within lo hi number n =
+      λ n r. let a = c.args in listed-within a.from.now a.to.now some.0 lo hi number n (served some.0 some.1).segments r in
+    let pr = c.requires in
+    record {
+      parts = parts c.args.count pr.0.parts;
+      held = omega arith;
+      few = pr.0.few;
+      cells = pr.0.cells;
+      lows = omega (arith, c.incoming.kept, few);
+      highs = omega (arith, c.incoming.kept, few);
+      choices = few;
+      level = omega arith;
+      room = record {
+        rows = omega (arith, c.rival_rows.kept, pr.0.few);
+        few-offers = pr.0.few;
+        words = omega (arith, c.spans-wanted.kept, few);
+        few-edges = few;
+      };
+      made = λ k l. absurd (omega arith);
+    }
+
+pub returns : goal.returns
+returns c =
+    let number : ℕ =
+      c.in-OnEach.d in
+    let lo : List ℕ =
+      c.incoming.new.1.1.1.1.1.0 in
+    let hi : List ℕ =
+      c.incoming.new.1.1.1.1.1.1.0 in
+    let Into : List ℕ → Type 0 =
+      λ js. let a = c.args in ListFrom a.next.now (get_or a.first.now a.onto.node 0) js in
+    let served : (js : List ℕ) → Into js → (let a = c.args in Served a.from.now a.to.now js lo hi number) =
+      λ js h. let a = c.args in
+      let i = c.incoming in
+      brings_each a.from.now a.to.now js lo hi i.result (i.ensures js h) number c.in-OnEach.is in
+    let a = c.args in
+    let jn = c.join in (
+      jn.ensures.0,
+      λ t ts on y.
+          let sp = c.spans-wanted in
+          let v = served _ y.list in
+          subst (λ z. Outcome t (rows_in jn.new.0 jn.result.count) jn.result.ok (ts ++ z)) (meeting_ways y v)
+          (jn.ensures.1.1 t (admitted a.gate) ts [] (each on (into t a.onto.node)) sp.result
+          (meeting_dfs y v _ _ _ a.count c.barred-blocked.result sp.result y.holds_ts.count-is (c.barred-blocked.ensures t ts y.holds_ts)
+          (c.rival_rows.ensures t ts y.holds_ts) sp.ensures)),
+    )

@@ -1,0 +1,32 @@
+-- `offers_over::extend_one` meets its contract: the offer is barred, there is no room, or it is extended. Assumes nothing.
+use mathlib.Core.Path.{refl, sym, ◌∙◌}
+use native.Mathlib.Omega.{arith}
+use borrow.Author.Tests.{not-true, not-false}
+use borrow.Author.Rules.{rules}
+use Rattle.offers_over.proofs.Outcomes.{is_held, too_many}
+use Rattle.offers_over.proofs.Parts.{one_barred, one-is, one-fresh, one-full}
+use Rattle.offers_over.proofs.extend_one.Goals as goal
+
+pub returns-then-not-admits : goal.returns-then-not-admits
+returns-then-not-admits c = (
+  search rules,
+  λ t ts x y.
+      let g = sym c.admits.ensures ∙ not-true _ c.if-not-admits.true in
+      is_held refl (one_barred y g) y.holds_ts,
+)
+
+pub returns-then-count-ge-MOST_OFFERS : goal.returns-then-count-ge-MOST_OFFERS
+returns-then-count-ge-MOST_OFFERS c = (
+  search rules,
+  λ t ts x y.
+      let g = sym c.admits.ensures ∙ not-false _ c.if-not-admits.false in
+      too_many refl (one-full y g (omega (arith, y.holds_ts.count-is, c.if-count-ge-MOST_OFFERS.true))),
+)
+
+pub returns : goal.returns
+returns c = (
+  search rules,
+  λ t ts x y.
+      let g = sym c.admits.ensures ∙ not-false _ c.if-not-admits.false in
+      is_held refl (one-is y g) (c.extend.ensures t ts y.holds_ts (one-fresh y g) y.leaves),
+)

@@ -1,0 +1,17 @@
+-- `shun_one`: no set that passes has a rival of an end that it has. Assumes nothing.
+use mathlib.Core.Path.{sym, ◌∙◌}
+use native.Mathlib.Omega.{arith}
+use borrow.Author.Tests.{not-false}
+use Rattle.pick_bounds.proofs.Pruning.{keeps_all, shuns}
+use Rattle.pick_bounds.specs.Bounds.{good}
+use Rattle.pick_bounds.proofs.shun_one.Goals as goal
+
+pub returns-then-k-ge-ENDS : goal.returns-then-k-ge-ENDS
+returns-then-k-ge-ENDS c = λ want. keeps_all (good c.args.net.now want) c.args.b
+
+pub returns-then-not-meets : goal.returns-then-not-meets
+returns-then-not-meets c = λ want. keeps_all (good c.args.net.now want) c.args.b
+
+pub returns : goal.returns
+returns c = λ want. let a = c.args in
+    shuns a.net.now want a.b a.k c.end_of.result (omega (arith, c.if-k-ge-ENDS.false)) c.end_of.ensures (sym c.meets.ensures ∙ not-false _ c.if-not-meets.false) c.strike.result c.strike.ensures

@@ -1,0 +1,58 @@
+-- `clear_nodes`: one node after the other; of an outgoing parameter the number of values is left as it is. Assumes nothing.
+use Prim.Native.Nat.{◌-◌, ◌<◌}
+use mathlib.Core.Path.{◌≡◌}
+use mathlib.Core.Logic.{⊎_elim}
+use native.Mathlib.Omega.{arith}
+use lib.ListN.{length}
+use Rattle.step_close.proofs.Clearing.{emptied_none, emptied_more, emptied_left}
+use Rattle.step_close.proofs.clear_nodes.Goals as goal
+
+pub loop-i-init : goal.loop-i-init
+loop-i-init c = let a = c.args in (omega arith, emptied_none a.t.now a.kept.now a.more.now a.runs.now)
+
+pub bounds-kept-i : goal.bounds-kept-i
+bounds-kept-i c =
+    let in_kept : c.loop-i.i < length c.loop-i.auto =
+      omega (arith, c.loop-i.invariant.1.kepts.long, c.requires.1, c.loop-i-test.true) in
+    in_kept
+
+pub bounds-more-i : goal.bounds-more-i
+bounds-more-i c =
+    let in_more : c.loop-i.i < length c.loop-i.more =
+      omega (arith, c.loop-i.invariant.1.mores.long, c.requires.2, c.loop-i-test.true) in
+    in_more
+
+pub bounds-runs-i : goal.bounds-runs-i
+bounds-runs-i c =
+    let in_runs : c.loop-i.i < length c.loop-i.runs =
+      omega (arith, c.loop-i.invariant.1.still.long, c.requires.3, c.loop-i-test.true) in
+    in_runs
+
+pub loop-i-preserved : goal.loop-i-preserved
+loop-i-preserved c =
+    let in_kept : c.loop-i.i < length c.loop-i.auto =
+      omega (arith, c.loop-i.invariant.1.kepts.long, c.requires.1, c.loop-i-test.true) in
+    let in_more : c.loop-i.i < length c.loop-i.more =
+      omega (arith, c.loop-i.invariant.1.mores.long, c.requires.2, c.loop-i-test.true) in
+    let in_runs : c.loop-i.i < length c.loop-i.runs =
+      omega (arith, c.loop-i.invariant.1.still.long, c.requires.3, c.loop-i-test.true) in
+    let g = c.loop-i.invariant.1 in
+    let k = c.kind.ensures.0 in (
+      omega arith,
+      ⊎_elim
+          (λ w. rw (w.1, w.2) (emptied_more g (in_runs) k w.0.taken (in_kept) (in_more)))
+          (λ w. rw (w.1, w.2) (emptied_left g (in_runs) k w.0.left))
+          c.if-kind-ne-OUTGOING.branch,
+    )
+
+pub shape_of-kept : goal.shape_of-kept
+shape_of-kept c = c.loop-i.invariant.1.kepts.long
+
+pub shape_of-more : goal.shape_of-more
+shape_of-more c = c.loop-i.invariant.1.mores.long
+
+pub shape_of-runs : goal.shape_of-runs
+shape_of-runs c = c.loop-i.invariant.1.still.long
+
+pub returns : goal.returns
+returns c = let e : c.loop-i.i ≡ c.args.table.nodes = omega arith in rw (← e) c.loop-i.invariant.1

@@ -1,0 +1,37 @@
+-- `bringing`: one end after the other. The invariant: the word has those passed that are taken and have a value. Assumes nothing.
+use mathlib.Core.Path.{◌≡◌, sym, ap, ◌∙◌}
+use mathlib.Core.Bool.{Bool, not, ◌&&◌}
+use mathlib.Core.Logic.{⊎_elim}
+use Prim.Native.Nat.{ℕ, ◌-◌}
+use native.Mathlib.Omega.{arith}
+use lib.Dec.{eqb}
+use Rattle.paper.specs.Lists.{at, has}
+use Rattle.offers.proofs.Sets.{marks_nil, marks_skip, marks-more}
+use Rattle.step_gain.proofs.bringing.Goals as goal
+
+pub loop-k-init : goal.loop-k-init
+loop-k-init c = (omega arith, marks_nil _)
+
+pub bounds-row-k : goal.bounds-row-k
+bounds-row-k c = omega (arith, c.requires.0.many)
+
+pub bounds-valued-wide : goal.bounds-valued-wide
+bounds-valued-wide c = omega (arith, c.wide.ensures.0, c.requires.0.each-inside c.loop-k.k c.loop-k-test.true)
+
+pub loop-k-preserved : goal.loop-k-preserved
+loop-k-preserved c = let a = c.args in
+    let s = c.loop-k in
+    let e = c.brings_value.ensures
+    ∙ ap (λ (y : ℕ). has a.c s.k && not (eqb (at a.valued.now y) 0)) c.wide.ensures.0 in
+    let p : ℕ → Bool = λ j. has a.c j && not (eqb (at a.valued.now (at a.row.now j)) 0) in (
+      omega arith,
+      ⊎_elim
+          (λ w. rw (w.2, w.1.ensures) (marks-more p s.k s.w (sym e ∙ w.0.taken) s.invariant.1))
+          (λ w. rw w.1 (marks_skip p s.k s.w (sym e ∙ w.0.left) s.invariant.1))
+          c.if-brings_value.branch,
+    )
+
+pub returns : goal.returns
+returns c = let s = c.loop-k in
+    let e : s.k ≡ c.args.n = omega arith in
+    rw e at s.invariant.1

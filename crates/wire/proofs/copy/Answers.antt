@@ -1,0 +1,17 @@
+-- `copy` stores a part of one list in another. The invariant: the bytes passed are stored. Assumes nothing.
+use Prim.Native.Nat.{◌-◌}
+use mathlib.Core.Path.{◌≡◌}
+use native.Mathlib.Omega.{arith}
+use lib.ListN.{length-set}
+use Rattle.wire.proofs.Runs.{copy_more}
+use Rattle.wire.proofs.copy.Goals as goal
+
+pub loop-k-preserved : goal.loop-k-preserved
+loop-k-preserved c = let a = c.args in
+    let l = c.loop-k in
+    (omega arith, simp length-set (omega arith), rw l.invariant.2 (copy_more a.out.now a.src.now a.to a.from l.k (omega arith)))
+
+pub returns : goal.returns
+returns c = let l = c.loop-k in
+    let e : l.k ≡ c.args.n = omega arith in
+    rw (← e) l.invariant.2
