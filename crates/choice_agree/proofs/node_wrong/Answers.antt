@@ -25,7 +25,7 @@ returns-then-not-is_store c =
       ⊎_elim (λ w. ap (λ (b : Bool). s && b) w.2.left ∙ and_never s) (λ w. ap (λ (b : Bool). b && r) (sym c.is_marked.ensures ∙ w.left)) c.if-is_marked.branch in
     let a = c.args in
     let k = c.is_store.ensures ∙ ap (λ (x : ℕ). is_buffer x || is_outgoing x) c.kind.ensures.0 in
-    sym (node_other a.t.now (is_marked a.starting.now) a.c a.by-target.now a.i a.kept.now a.kept.now (calm) (sym k ∙ not-true _ c.if-not-is_store.true))
+    sym (node_other a.t.now (is_marked a.starting.now) a.c a.by-target.now a.i a.kept.now a.kept.now (calm) (sym k ∙ c.if-not-is_store.true))
 
 pub returns : goal.returns
 returns c =
@@ -37,4 +37,4 @@ returns c =
     let a = c.args in
     let k = c.is_store.ensures ∙ ap (λ (x : ℕ). is_buffer x || is_outgoing x) c.kind.ensures.0 in
     ap₂ (λ (x y : ℕ). ltb x y) c.upper.ensures.0 (ap₂ (λ (x y : ℕ). x + y) c.wide.ensures.0 c.taken_of.ensures.0)
-    ∙ sym (node-room a.t.now (is_marked a.starting.now) a.c a.by-target.now a.i a.kept.now a.kept.now (calm) (sym k ∙ not-false _ c.if-not-is_store.false))
+    ∙ sym (node-room a.t.now (is_marked a.starting.now) a.c a.by-target.now a.i a.kept.now a.kept.now (calm) (sym k ∙ c.if-not-is_store.false))

@@ -16,17 +16,17 @@ returns-then-kind-ne-INPUT c = let a = c.args in
 pub returns-then-not-is_marked : goal.returns-then-not-is_marked
 returns-then-not-is_marked c = let a = c.args in
     let s = is_marked a.starting.now in
-    sym (pin_idle a.t.now s a.c a.by-target.now a.p (sym (c.is_marked.ensures ∙ ap s c.owner.ensures.0) ∙ not-true _ c.if-not-is_marked.true))
+    sym (pin_idle a.t.now s a.c a.by-target.now a.p (sym (c.is_marked.ensures ∙ ap s c.owner.ensures.0) ∙ c.if-not-is_marked.true))
 
 pub returns-then-k-lower : goal.returns-then-k-lower
 returns-then-k-lower c = let a = c.args in
     let s = is_marked a.starting.now in
     sym (pin_low a.t.now s a.c a.by-target.now a.p (sym (ap is_input c.kind.ensures.0) ∙ eq-eqb _ 3 c.if-kind-ne-INPUT.false)
-    (sym (c.is_marked.ensures ∙ ap s c.owner.ensures.0) ∙ not-false _ c.if-not-is_marked.false) (omega (arith, c.if-k-lower.true, c.lower.ensures.0, c.taken_of-k.ensures.0)))
+    (sym (c.is_marked.ensures ∙ ap s c.owner.ensures.0) ∙ c.if-not-is_marked.false) (omega (arith, c.if-k-lower.true, c.lower.ensures.0, c.taken_of-k.ensures.0)))
 
 pub returns : goal.returns
 returns c = let a = c.args in
     let s = is_marked a.starting.now in
     ap₂ (λ (x y : ℕ). ltb x y) c.upper.ensures.0 c.taken_of-k.ensures.0
     ∙ sym (pin_high a.t.now s a.c a.by-target.now a.p (sym (ap is_input c.kind.ensures.0) ∙ eq-eqb _ 3 c.if-kind-ne-INPUT.false)
-    (sym (c.is_marked.ensures ∙ ap s c.owner.ensures.0) ∙ not-false _ c.if-not-is_marked.false) (omega (arith, c.if-k-lower.false, c.lower.ensures.0, c.taken_of-k.ensures.0)))
+    (sym (c.is_marked.ensures ∙ ap s c.owner.ensures.0) ∙ c.if-not-is_marked.false) (omega (arith, c.if-k-lower.false, c.lower.ensures.0, c.taken_of-k.ensures.0)))

@@ -49,7 +49,7 @@ returns-then-n-b-gt-MOST_ENDS c =
     let l = c.loop-e in
     let s = read-spans a.t.now p.0 in
     let is = ap is_control_node (c.kind.ensures.0 ∙ ap (kind a.t.now) c.target-node.ensures.0) in
-    let ends_here = sym is ∙ sym c.is_control_node.ensures ∙ not-true _ c.if-not-is_control_node.true in
+    let ends_here = sym is ∙ sym c.is_control_node.ensures ∙ c.if-not-is_control_node.true in
     record {
       good = λ h. absurd (omega arith);
       keyed = λ h. absurd (omega arith);

@@ -15,10 +15,10 @@ fires-requires c = let t = c.args.t.now in
 
 pub returns-then-not-fires : goal.returns-then-not-fires
 returns-then-not-fires c = let a = c.args in
-    gains_none a.t.now a.j a.firing c.source.ensures.0 c.fires.ensures (not-true _ c.if-not-fires.true)
+    gains_none a.t.now a.j a.firing c.source.ensures.0 c.fires.ensures c.if-not-fires.true
 
 pub returns : goal.returns
 returns c = let a = c.args in
     let f = read-spans a.t.now c.requires.0 in
     gains_count a.t.now a.j a.firing (omega (arith, f.edges-read, c.requires.1)) c.source.ensures.0
-    c.fires.ensures (not-false _ c.if-not-fires.false) c.has_count.ensures
+    c.fires.ensures c.if-not-fires.false c.has_count.ensures

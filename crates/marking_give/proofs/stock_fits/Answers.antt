@@ -9,10 +9,10 @@ use Rattle.marking_give.proofs.stock_fits.Goals as goal
 
 pub returns-then-not-is_object_node : goal.returns-then-not-is_object_node
 returns-then-not-is_object_node c = let a = c.args in
-    λ held h. sym (le-leb (held a.i) _ (omega (arith, h.none a.i (omega arith) (ap is_object_node (sym c.kind.ensures.0) ∙ sym c.is_object_node.ensures ∙ not-true _ c.if-not-is_object_node.true))))
+    λ held h. sym (le-leb (held a.i) _ (omega (arith, h.none a.i (omega arith) (ap is_object_node (sym c.kind.ensures.0) ∙ sym c.is_object_node.ensures ∙ c.if-not-is_object_node.true))))
 
 pub returns : goal.returns
 returns c = let a = c.args in
     λ held h.
-    ap₂ leb (ap₂ ◌+◌ c.wide.ensures.0 c.wide-2.ensures.0 ∙ h.stock a.i (omega arith) (ap is_object_node (sym c.kind.ensures.0) ∙ sym c.is_object_node.ensures ∙ not-false _ c.if-not-is_object_node.false))
+    ap₂ leb (ap₂ ◌+◌ c.wide.ensures.0 c.wide-2.ensures.0 ∙ h.stock a.i (omega arith) (ap is_object_node (sym c.kind.ensures.0) ∙ sym c.is_object_node.ensures ∙ c.if-not-is_object_node.false))
     c.upper.ensures.0

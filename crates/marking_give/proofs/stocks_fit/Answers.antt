@@ -15,10 +15,10 @@ loop-i-init c = (omega arith, λ m h k l. absurd (omega arith))
 
 pub returns-then-not-stock_fits : goal.returns-then-not-stock_fits
 returns-then-not-stock_fits c = let a = c.args in
-    λ m h. sym (all_fails (λ k. leb (m k) (upper a.t.now k)) (nodes a.t.now) c.loop-i.i (omega arith) (sym (c.stock_fits.ensures m h) ∙ not-true _ c.if-not-stock_fits.true))
+    λ m h. sym (all_fails (λ k. leb (m k) (upper a.t.now k)) (nodes a.t.now) c.loop-i.i (omega arith) (sym (c.stock_fits.ensures m h) ∙ c.if-not-stock_fits.true))
 
 pub loop-i-preserved : goal.loop-i-preserved
-loop-i-preserved c = (omega arith, λ m h. below_more _ _ (c.loop-i.invariant.1 m h) (sym (c.stock_fits.ensures m h) ∙ not-false _ c.if-not-stock_fits.false))
+loop-i-preserved c = (omega arith, λ m h. below_more _ _ (c.loop-i.invariant.1 m h) (sym (c.stock_fits.ensures m h) ∙ c.if-not-stock_fits.false))
 
 pub returns : goal.returns
 returns c = let a = c.args in

@@ -14,22 +14,6 @@ use Rattle.offers.proofs.clashes.Goals as goal
 pub loop-j-init : goal.loop-j-init
 loop-j-init c = (search rules, marks_nil _)
 
-pub loop-j-preserved : goal.loop-j-preserved
-loop-j-preserved c =
-    let l = c.loop-j in
-    let a = c.args in
-    let r = rows_in a.rows.now a.count in
-    let p : ℕ → Bool = λ j. hit a.n a.k a.a (r.entry j).node (r.entry j).parents a.c in
-    let e = c.hits.ensures in (
-      search rules,
-      ⊎_elim
-          (λ w. subst (λ d. Hits r a.n a.k a.a a.c (l.j + 1) d) (ap (λ b. bit_or l.d b) (sym w.1.ensures) ∙ sym w.2)
-          (marks-more p l.j l.d (sym e ∙ w.0.taken) l.invariant.1))
-          (λ w. subst (λ d. Hits r a.n a.k a.a a.c (l.j + 1) d) (sym w.1)
-          (marks_skip p l.j l.d (sym e ∙ w.0.left) l.invariant.1))
-          c.if-hits.branch,
-    )
-
 pub returns : goal.returns
 returns c =
     let l = c.loop-j in

@@ -18,21 +18,6 @@ returns-then-k-ne-JOIN c = λ h. absurd (c.if-k-ne-JOIN.true (eqb-true _ 11 h))
 pub loop-j-init : goal.loop-j-init
 loop-j-init c = (search rules, marks_nil _)
 
-pub loop-j-preserved : goal.loop-j-preserved
-loop-j-preserved c =
-    let l = c.loop-j in
-    let a = c.args in
-    let r = rows_in a.rows.now a.count in
-    let p : ℕ → Bool = λ j. eqb (r.entry j).has 0 in (
-      search rules,
-      ⊎_elim
-          (λ w. subst (λ d. Controls r (l.j + 1) d) (ap (λ b. bit_or l.d b) (sym w.1.ensures) ∙ sym w.2)
-          (marks-more p l.j l.d (eq-eqb _ 0 w.0.taken) l.invariant.1))
-          (λ w. subst (λ d. Controls r (l.j + 1) d) (sym w.1)
-          (marks_skip p l.j l.d (ne_eqb _ 0 w.0.left) l.invariant.1))
-          c.if-rows-j-eq0.branch,
-    )
-
 pub returns : goal.returns
 returns c = λ h.
     let l = c.loop-j in

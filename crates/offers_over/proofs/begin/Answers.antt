@@ -21,7 +21,7 @@ pub returns-then-not-admits : goal.returns-then-not-admits
 returns-then-not-admits c = (
   search rules,
   λ t ts y.
-      let g = sym c.admits.ensures ∙ not-true _ c.if-not-admits.true in
+      let g = sym c.admits.ensures ∙ c.if-not-admits.true in
       is_held refl (begin_barred y c.if-code-eq0.false g) y.holds_ts,
 )
 
@@ -29,7 +29,7 @@ pub returns-then-count-ge-MOST_OFFERS : goal.returns-then-count-ge-MOST_OFFERS
 returns-then-count-ge-MOST_OFFERS c = (
   search rules,
   λ t ts y.
-      let g = sym c.admits.ensures ∙ not-false _ c.if-not-admits.false in
+      let g = sym c.admits.ensures ∙ c.if-not-admits.false in
       too_many refl (begin_full y c.if-code-eq0.false g (omega (arith, y.holds_ts.count-is, c.if-count-ge-MOST_OFFERS.true))),
 )
 
@@ -59,7 +59,7 @@ returns c = (
       let m = a.rows.now in
       let m' = set m (16 * a.count + 8) 0 in
       let ne = c.if-code-eq0.false in
-      let g = sym c.admits.ensures ∙ not-false _ c.if-not-admits.false in
+      let g = sym c.admits.ensures ∙ c.if-not-admits.false in
       let h = led_holds t m m' a.count 0 0 0 ts y.holds_ts (led_blank m a.count) in
       is_held refl (begin_is y ne g)
       (c.grow.ensures t ts _ h

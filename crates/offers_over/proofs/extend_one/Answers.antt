@@ -11,7 +11,7 @@ pub returns-then-not-admits : goal.returns-then-not-admits
 returns-then-not-admits c = (
   search rules,
   λ t ts x y.
-      let g = sym c.admits.ensures ∙ not-true _ c.if-not-admits.true in
+      let g = sym c.admits.ensures ∙ c.if-not-admits.true in
       is_held refl (one_barred y g) y.holds_ts,
 )
 
@@ -19,7 +19,7 @@ pub returns-then-count-ge-MOST_OFFERS : goal.returns-then-count-ge-MOST_OFFERS
 returns-then-count-ge-MOST_OFFERS c = (
   search rules,
   λ t ts x y.
-      let g = sym c.admits.ensures ∙ not-false _ c.if-not-admits.false in
+      let g = sym c.admits.ensures ∙ c.if-not-admits.false in
       too_many refl (one-full y g (omega (arith, y.holds_ts.count-is, c.if-count-ge-MOST_OFFERS.true))),
 )
 
@@ -27,6 +27,6 @@ pub returns : goal.returns
 returns c = (
   search rules,
   λ t ts x y.
-      let g = sym c.admits.ensures ∙ not-false _ c.if-not-admits.false in
+      let g = sym c.admits.ensures ∙ c.if-not-admits.false in
       is_held refl (one-is y g) (c.extend.ensures t ts y.holds_ts (one-fresh y g) y.leaves),
 )

@@ -34,7 +34,7 @@ returns-then-not-g c = (
   λ t ts on y.
       let p = c.loop-j.invariant.1.1 t ts on y in
       let w = c.extend_all-g.ensures.1 t _ _ (passing_ext y p c.loop-j-test.taken c.wide-a.ensures.0 c.wide-b.ensures.0) in
-      let o = not-true _ c.if-not-g.true in
+      let o = c.if-not-g.true in
       too_many o (passing_bad y p c.loop-j-test.taken (w.bad o)),
 )
 
@@ -51,7 +51,7 @@ loop-j-preserved c =
         λ t ts on y.
             let p = l.invariant.1.1 t ts on y in
             let w = x.ensures.1 t _ _ (passing_ext y p c.loop-j-test.taken c.wide-a.ensures.0 c.wide-b.ensures.0) in
-            passing_more y p c.loop-j-test.taken c.wide-j-in-loop-j.ensures.0 (w.good (not-false _ c.if-not-g.false)),
+            passing_more y p c.loop-j-test.taken c.wide-j-in-loop-j.ensures.0 (w.good c.if-not-g.false),
       ),
     )
 

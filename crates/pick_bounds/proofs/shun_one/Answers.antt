@@ -11,3 +11,7 @@ returns-then-k-ge-ENDS c = λ want. keeps_all (good c.args.net.now want) c.args.
 
 pub returns-then-not-meets : goal.returns-then-not-meets
 returns-then-not-meets c = λ want. keeps_all (good c.args.net.now want) c.args.b
+
+pub returns : goal.returns
+returns c = λ want. let a = c.args in
+    shuns a.net.now want a.b a.k c.end_of.result (omega (arith, c.if-k-ge-ENDS.false)) c.end_of.ensures (sym c.meets.ensures ∙ c.if-not-meets.false) c.strike.result c.strike.ensures

@@ -5,4 +5,4 @@ use Rattle.pick_demands.proofs.lack.Goals as goal
 
 pub returns : goal.returns
 returns c = let a = c.args in
-    λ free w. asks-set_off a.want a.rule a.b c.lacked.result free (c.applies.ensures (not-false _ c.if-not-applies.false)) c.lacked.ensures w
+    λ free w. asks-set_off a.want a.rule a.b c.lacked.result free (c.applies.ensures c.if-not-applies.false) c.lacked.ensures w

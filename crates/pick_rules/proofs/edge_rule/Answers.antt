@@ -27,7 +27,7 @@ returns-then-not-leads c =
     λ target home n kn m x.
     c.no_rule-then-not-leads.ensures n x
     ∙ sym (row_later a.edge.now (edges a.t.now) (λ e. edge_kept a.t.now a.edge.now target home n e x) a.k
-    (sym (leads-word a.edge.now a.k kn q (at_edge m _ l)) ∙ sym c.leads.ensures ∙ not-true _ c.if-not-leads.true))
+    (sym (leads-word a.edge.now a.k kn q (at_edge m _ l)) ∙ sym c.leads.ensures ∙ c.if-not-leads.true))
 
 pub target-i-requires : goal.target-i-requires
 target-i-requires c = (read-spans _ c.requires.0, omega (arith, c.if-table-e.false))
@@ -48,7 +48,7 @@ returns-then-kind-ne-ACTION c =
     c.no_rule-then-kind-ne-ACTION.ensures n x
     ∙ sym
     (row_first a.edge.now (edges a.t.now) (λ e. edge_kept a.t.now a.edge.now target home n e x) a.k _ (sym q) (omega (arith, s.edges-read, l))
-    (sym (leads-word a.edge.now a.k kn q (at_edge m _ l)) ∙ sym c.leads.ensures ∙ not-false _ c.if-not-leads.false)
+    (sym (leads-word a.edge.now a.k kn q (at_edge m _ l)) ∙ sym c.leads.ensures ∙ c.if-not-leads.false)
     ∙ edge_other a.t.now a.edge.now target home n _ x _ c.target-i.ensures.0 (λ e. c.if-kind-ne-ACTION.true (c.kind.ensures.0 ∙ e)))
 
 pub owned-requires : goal.owned-requires
@@ -72,4 +72,4 @@ returns c =
     (rw c.owned.ensures (at_both m _ (omega (arith, to)))) (at_edge m _ l)
     ∙ sym
     (row_first a.edge.now (edges a.t.now) (λ e. edge_kept a.t.now a.edge.now target home n e x) a.k _ (sym q) (omega (arith, s.edges-read, l))
-    (sym (leads-word a.edge.now a.k kn q (at_edge m _ l)) ∙ sym c.leads.ensures ∙ not-false _ c.if-not-leads.false))
+    (sym (leads-word a.edge.now a.k kn q (at_edge m _ l)) ∙ sym c.leads.ensures ∙ c.if-not-leads.false))

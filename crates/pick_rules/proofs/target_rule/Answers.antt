@@ -31,7 +31,7 @@ returns-then-not-leads c =
     c.no_rule-then-not-leads.ensures n x
     ∙ sym
     (row_later a.target.now (nodes a.t.now) (λ i. seats_kept a.t.now a.target.now home runs a.stock.now n i x) a.k
-    (sym (leads-word a.target.now a.k kn q (at_target m _ l)) ∙ sym c.leads.ensures ∙ not-true _ c.if-not-leads.true))
+    (sym (leads-word a.target.now a.k kn q (at_target m _ l)) ∙ sym c.leads.ensures ∙ c.if-not-leads.true))
 
 pub kind-kind-requires : goal.kind-kind-requires
 kind-kind-requires c = (read-spans _ c.requires.0, omega (arith, c.if-table-i.false))
@@ -66,7 +66,7 @@ returns-then-kind-eq-INPUT c =
     (rw c.owned.ensures (at_both m _ (omega (arith, of)))) (at_target m _ l)
     ∙ sym
     (row_first a.target.now (nodes a.t.now) (λ i. seats_kept a.t.now a.target.now home runs a.stock.now n i x) a.k _ (sym q) (omega (arith, s.nodes-read, l))
-    (sym (leads-word a.target.now a.k kn q (at_target m _ l)) ∙ sym c.leads.ensures ∙ not-false _ c.if-not-leads.false))
+    (sym (leads-word a.target.now a.k kn q (at_target m _ l)) ∙ sym c.leads.ensures ∙ c.if-not-leads.false))
 
 pub returns-then-not-is_store : goal.returns-then-not-is_store
 returns-then-not-is_store c =
@@ -75,12 +75,12 @@ returns-then-not-is_store c =
     let q = c.wide-i.ensures.0 in
     let l : c.wide-i.result < a.table.nodes = omega (arith, c.if-table-i.false) in
     let k = c.kind-kind.ensures.0 in
-    let no = ap (λ (z : ℕ). is_buffer z || is_outgoing z) (sym k) ∙ sym c.is_store.ensures ∙ not-true _ c.if-not-is_store.true in
+    let no = ap (λ (z : ℕ). is_buffer z || is_outgoing z) (sym k) ∙ sym c.is_store.ensures ∙ c.if-not-is_store.true in
     λ byEdge edge home runs n kn m x.
     c.no_rule-then-not-is_store.ensures n x
     ∙ sym
     (row_first a.target.now (nodes a.t.now) (λ i. seats_kept a.t.now a.target.now home runs a.stock.now n i x) a.k _ (sym q) (omega (arith, s.nodes-read, l))
-    (sym (leads-word a.target.now a.k kn q (at_target m _ l)) ∙ sym c.leads.ensures ∙ not-false _ c.if-not-leads.false)
+    (sym (leads-word a.target.now a.k kn q (at_target m _ l)) ∙ sym c.leads.ensures ∙ c.if-not-leads.false)
     ∙ no_store a.t.now a.target.now home runs a.stock.now n _ x (λ e. c.if-kind-eq-INPUT.false (k ∙ e)) no)
 
 pub upper-requires-2 : goal.upper-requires-2
@@ -93,10 +93,10 @@ returns c =
     let q = c.wide-i.ensures.0 in
     let l : c.wide-i.result < a.table.nodes = omega (arith, c.if-table-i.false) in
     let k = c.kind-kind.ensures.0 in
-    let yes = ap (λ (z : ℕ). is_buffer z || is_outgoing z) (sym k) ∙ sym c.is_store.ensures ∙ not-false _ c.if-not-is_store.false in
+    let yes = ap (λ (z : ℕ). is_buffer z || is_outgoing z) (sym k) ∙ sym c.is_store.ensures ∙ c.if-not-is_store.false in
     λ byEdge edge home runs n kn m x.
     store_says a.t.now a.target.now home runs a.stock.now n _ x _ _ (λ e. c.if-kind-eq-INPUT.false (k ∙ e)) yes
     (c.room.ensures ∙ ap₂ (λ (u v : ℕ). u - v) c.upper-2.ensures.0 c.wide.ensures.0) (at_target m _ l)
     ∙ sym
     (row_first a.target.now (nodes a.t.now) (λ i. seats_kept a.t.now a.target.now home runs a.stock.now n i x) a.k _ (sym q) (omega (arith, s.nodes-read, l))
-    (sym (leads-word a.target.now a.k kn q (at_target m _ l)) ∙ sym c.leads.ensures ∙ not-false _ c.if-not-leads.false))
+    (sym (leads-word a.target.now a.k kn q (at_target m _ l)) ∙ sym c.leads.ensures ∙ c.if-not-leads.false))

@@ -72,7 +72,7 @@ returns-then-not-stocks_fit c =
     let am = amounts (t) (kind) (owner) (fires) d.current (values) a.old.now (held) d.givable (place) (more) (are-good) in
     refused-reply d (fires) (values) 16 0 _ a.out.now
     (gives_16_stocks (t) (kind) (owner) (fires) d.current (values) a.old.now (held) d.givable (place) (more) (are-good)
-    (sym (c.stocks_fit.ensures _ am) ∙ not-true _ c.if-not-stocks_fit.true))
+    (sym (c.stocks_fit.ensures _ am) ∙ c.if-not-stocks_fit.true))
     c.pack-then-not-stocks_fit.ensures
 
 pub gain-requires : goal.gain-requires
@@ -100,10 +100,10 @@ returns-then-not-gain c =
       subst (λ (r : ValuesAnswer). ValuesRead t kind owner values place more (value_lists (listed_nodes t kind owner) values) r)
       c.in_default.is c.read_values.ensures in
     let a = c.args in
-    let q = not-true _ c.if-not-gain.true in
+    let q = c.if-not-gain.true in
     λ d.
     let am = amounts (t) (kind) (owner) (fires) d.current (values) a.old.now (held) d.givable (place) (more) (are-good) in
-    let fit = sym (c.stocks_fit.ensures _ am) ∙ not-false _ c.if-not-stocks_fit.false in
+    let fit = sym (c.stocks_fit.ensures _ am) ∙ c.if-not-stocks_fit.false in
     let z = c.gain.ensures d.current.tokens (record { counts = d.givable.held.counts; none = d.givable.no_count }) in
     refused-reply d (fires) (values) 16 0 _ a.out.now
     (gives_16_counts (t) (kind) (owner) (fires) d.current (values) a.old.now (held) d.givable (place) (more) (are-good) fit
@@ -133,7 +133,7 @@ reply-requires c =
       c.in_default.is c.read_values.ensures in
     let told : (d : Deliverable (t) (kind) (owner) c.args.old.now (held)) → (m : Marking) × (give_of (t) (kind) (owner) (fires) d.current (values) ≡ good m) × MarkingHeld (t) m c.args.old.now (values) (given_to (held) (place) (more) c.gain.new.1.1.1.0) =
       λ d. let a = c.args in
-      let q = not-false _ c.if-not-gain.false in
+      let q = c.if-not-gain.false in
       let am = amounts (t) (kind) (owner) (fires) d.current (values) a.old.now (held) d.givable (place) (more) (are-good) in
       let fit = sym (c.stocks_fit.ensures _ am) ∙ not-false _ c.if-not-stocks_fit.left in
       let z = c.gain.ensures d.current.tokens (record { counts = d.givable.held.counts; none = d.givable.no_count }) in
@@ -175,7 +175,7 @@ returns c =
       c.in_default.is c.read_values.ensures in
     let told : (d : Deliverable (t) (kind) (owner) c.args.old.now (held)) → (m : Marking) × (give_of (t) (kind) (owner) (fires) d.current (values) ≡ good m) × MarkingHeld (t) m c.args.old.now (values) (given_to (held) (place) (more) c.gain.new.1.1.1.0) =
       λ d. let a = c.args in
-      let q = not-false _ c.if-not-gain.false in
+      let q = c.if-not-gain.false in
       let am = amounts (t) (kind) (owner) (fires) d.current (values) a.old.now (held) d.givable (place) (more) (are-good) in
       let fit = sym (c.stocks_fit.ensures _ am) ∙ not-false _ c.if-not-stocks_fit.left in
       let z = c.gain.ensures d.current.tokens (record { counts = d.givable.held.counts; none = d.givable.no_count }) in

@@ -11,7 +11,7 @@ pub returns-then-not-is_closing : goal.returns-then-not-is_closing
 returns-then-not-is_closing c =
     let ending : Bool =
       let a = c.args in closes a.t.now a.target.now a.n a.c in
-    let q : ending ≡ false = sym c.is_closing.ensures ∙ not-true _ c.if-not-is_closing.true in (sym (ap one_if q), closed_not q)
+    let q : ending ≡ false = sym c.is_closing.ensures ∙ c.if-not-is_closing.true in (sym (ap one_if q), closed_not q)
 
 pub returns : goal.returns
 returns c =

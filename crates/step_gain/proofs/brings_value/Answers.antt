@@ -4,7 +4,7 @@ use borrow.Author.Tests.{not-true, not-false}
 use Rattle.step_gain.proofs.brings_value.Goals as goal
 
 pub returns-then-not-is_taken : goal.returns-then-not-is_taken
-returns-then-not-is_taken c = sym (rw (sym c.is_taken.ensures ∙ not-true _ c.if-not-is_taken.true))
+returns-then-not-is_taken c = sym (rw (sym c.is_taken.ensures ∙ c.if-not-is_taken.true))
 
 pub returns : goal.returns
-returns c = sym (rw (sym c.is_taken.ensures ∙ not-false _ c.if-not-is_taken.false))
+returns c = sym (rw (sym c.is_taken.ensures ∙ c.if-not-is_taken.false))

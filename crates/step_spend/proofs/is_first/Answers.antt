@@ -4,7 +4,7 @@ use borrow.Author.Tests.{not-true, not-false}
 use Rattle.step_spend.proofs.is_first.Goals as goal
 
 pub returns-then-not-in_word : goal.returns-then-not-in_word
-returns-then-not-in_word c = sym (rw (sym c.in_word.ensures ∙ not-true _ c.if-not-in_word.true))
+returns-then-not-in_word c = sym (rw (sym c.in_word.ensures ∙ c.if-not-in_word.true))
 
 pub returns : goal.returns
-returns c = sym (rw (sym c.in_word.ensures ∙ not-false _ c.if-not-in_word.false))
+returns c = sym (rw (sym c.in_word.ensures ∙ c.if-not-in_word.false))

@@ -17,7 +17,7 @@ loop-k-init c = (search rules, (search rules, c.mark_control.ensures (blank limi
 pub returns-then-not-lift : goal.returns-then-not-lift
 returns-then-not-lift c = let l = c.loop-k in
     let x = c.lift in
-    (omega (arith, x.auto), (x.ensures l.k l.invariant.0.0 (omega arith) l.invariant.1.1).1 (not-true _ c.if-not-lift.true))
+    (omega (arith, x.auto), (x.ensures l.k l.invariant.0.0 (omega arith) l.invariant.1.1).1 c.if-not-lift.true)
 
 pub loop-k-preserved : goal.loop-k-preserved
 loop-k-preserved c = let l = c.loop-k in

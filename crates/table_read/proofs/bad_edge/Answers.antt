@@ -17,10 +17,10 @@ pub returns-then-not-edge_fine : goal.returns-then-not-edge_fine
 returns-then-not-edge_fine c =
     let l = c.loop-j in
     let t = c.args.s.now in
-    sym (fails_at (edge_fine t) (edges t) l.j l.invariant.2 (sym c.edge_fine.ensures ∙ not-true _ c.if-not-edge_fine.true) (omega arith))
+    sym (fails_at (edge_fine t) (edges t) l.j l.invariant.2 (sym c.edge_fine.ensures ∙ c.if-not-edge_fine.true) (omega arith))
 
 pub loop-j-preserved : goal.loop-j-preserved
-loop-j-preserved c = (search rules, search rules, below_more _ _ c.loop-j.invariant.2 (sym c.edge_fine.ensures ∙ not-false _ c.if-not-edge_fine.false))
+loop-j-preserved c = (search rules, search rules, below_more _ _ c.loop-j.invariant.2 (sym c.edge_fine.ensures ∙ c.if-not-edge_fine.false))
 
 pub returns : goal.returns
 returns c =

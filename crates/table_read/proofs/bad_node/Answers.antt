@@ -18,10 +18,10 @@ pub returns-then-not-node_fine : goal.returns-then-not-node_fine
 returns-then-not-node_fine c =
     let l = c.loop-i in
     let t = c.args.s.now in
-    sym (fails_at (node_fine t limits) (nodes t) l.i l.invariant.2 (sym c.node_fine.ensures ∙ not-true _ c.if-not-node_fine.true) (omega arith))
+    sym (fails_at (node_fine t limits) (nodes t) l.i l.invariant.2 (sym c.node_fine.ensures ∙ c.if-not-node_fine.true) (omega arith))
 
 pub loop-i-preserved : goal.loop-i-preserved
-loop-i-preserved c = (search rules, search rules, below_more _ _ c.loop-i.invariant.2 (sym c.node_fine.ensures ∙ not-false _ c.if-not-node_fine.false))
+loop-i-preserved c = (search rules, search rules, below_more _ _ c.loop-i.invariant.2 (sym c.node_fine.ensures ∙ c.if-not-node_fine.false))
 
 pub returns : goal.returns
 returns c =

@@ -59,11 +59,11 @@ returns-then-guarded-gt1 c =
     simp (f, and-false)
 
 pub returns-then-not-may_leave : goal.returns-then-not-may_leave
-returns-then-not-may_leave c = leave-bad c.args.s.now c.args.j c.edge_kind-k.ensures.0 c.source-from.ensures.0 c.kind.ensures.0 (sym c.may_leave.ensures ∙ not-true _ c.if-not-may_leave.true)
+returns-then-not-may_leave c = leave-bad c.args.s.now c.args.j c.edge_kind-k.ensures.0 c.source-from.ensures.0 c.kind.ensures.0 (sym c.may_leave.ensures ∙ c.if-not-may_leave.true)
 
 pub returns : goal.returns
 returns c =
     let r = c.requires.0.nodes-read in
     edge_by c.args.s.now c.args.j c.edge_kind-k.ensures.0 c.source-from.ensures.0 c.kind.ensures.0 c.target-to.ensures.0 c.kind-2.ensures.0 c.guarded.ensures.0
     (omega (arith, c.if-k-gt-OBJECT.false)) (omega (arith, r, c.if-table-from.false)) (omega (arith, r, c.if-table-to.false)) (omega (arith, c.if-guarded-gt1.false))
-    (sym c.may_leave.ensures ∙ not-false _ c.if-not-may_leave.false) c.may_enter.ensures
+    (sym c.may_leave.ensures ∙ c.if-not-may_leave.false) c.may_enter.ensures

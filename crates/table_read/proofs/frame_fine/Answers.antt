@@ -35,7 +35,7 @@ pub returns-then-not-within : goal.returns-then-not-within
 unfolding frame_fine
 returns-then-not-within c =
     let a = c.args in
-    let f : within 1 a.most.nodes (nodes a.s.now) ≡ false = rw (← c.counts-table.ensures.0) (sym c.within.ensures ∙ not-true _ c.if-not-within.true) in
+    let f : within 1 a.most.nodes (nodes a.s.now) ≡ false = rw (← c.counts-table.ensures.0) (sym c.within.ensures ∙ c.if-not-within.true) in
     simp (f, and-false)
 
 pub returns-then-most-e : goal.returns-then-most-e
@@ -53,6 +53,6 @@ returns c =
     let n = c.counts-table.ensures in
     let f1 : eqb (at t 0 * 256 + at t 1 + 2) (length t) ≡ true = omega (arith, eq-eqb) in
     let f2 : eqb (at t 2) 1 ≡ true = omega (arith, eq-eqb) in
-    let f3 : within 1 a.most.nodes (nodes t) ≡ true = rw (← n.0) (sym c.within.ensures ∙ not-false _ c.if-not-within.false) in
+    let f3 : within 1 a.most.nodes (nodes t) ≡ true = rw (← n.0) (sym c.within.ensures ∙ c.if-not-within.false) in
     let f4 : leb (edges t) a.most.edges ≡ true = omega (arith, le-leb) in
     rw (f1, f2, f3, f4) (ap (eqb (length t)) (c.edge_at.ensures t n.0 ∙ ap (edge_at t) n.1))

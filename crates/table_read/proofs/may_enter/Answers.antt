@@ -9,13 +9,13 @@ pub returns-then-within : goal.returns-then-within
 returns-then-within c = rw (may-enter _ _, sym c.within.ensures ∙ c.if-within.true)
 
 pub returns-then-not-object : goal.returns-then-not-object
-returns-then-not-object c = rw (may-enter _ _, sym c.within.ensures ∙ c.if-within.false, not-true c.args.object c.if-not-object.true)
+returns-then-not-object c = rw (may-enter _ _, sym c.within.ensures ∙ c.if-within.false, c.if-not-object.true)
 
 pub returns-then-k-eq-INPUT : goal.returns-then-k-eq-INPUT
-returns-then-k-eq-INPUT c = rw (may-enter _ _, sym c.within.ensures ∙ c.if-within.false, not-false c.args.object c.if-not-object.false, eq-eqb _ _ c.if-k-eq-INPUT.true)
+returns-then-k-eq-INPUT c = rw (may-enter _ _, sym c.within.ensures ∙ c.if-within.false, c.if-not-object.false, eq-eqb _ _ c.if-k-eq-INPUT.true)
 
 pub returns-then-k-eq-BUFFER : goal.returns-then-k-eq-BUFFER
-returns-then-k-eq-BUFFER c = rw (may-enter _ _, sym c.within.ensures ∙ c.if-within.false, not-false c.args.object c.if-not-object.false, ne_eqb _ _ c.if-k-eq-INPUT.false, eq-eqb _ _ c.if-k-eq-BUFFER.true)
+returns-then-k-eq-BUFFER c = rw (may-enter _ _, sym c.within.ensures ∙ c.if-within.false, c.if-not-object.false, ne_eqb _ _ c.if-k-eq-INPUT.false, eq-eqb _ _ c.if-k-eq-BUFFER.true)
 
 pub returns-else-k-eq-BUFFER : goal.returns-else-k-eq-BUFFER
-returns-else-k-eq-BUFFER c = rw (may-enter _ _, sym c.within.ensures ∙ c.if-within.false, not-false c.args.object c.if-not-object.false, ne_eqb _ _ c.if-k-eq-INPUT.false, ne_eqb _ _ c.if-k-eq-BUFFER.false) (sym (or-false _))
+returns-else-k-eq-BUFFER c = rw (may-enter _ _, sym c.within.ensures ∙ c.if-within.false, c.if-not-object.false, ne_eqb _ _ c.if-k-eq-INPUT.false, ne_eqb _ _ c.if-k-eq-BUFFER.false) (sym (or-false _))

@@ -28,7 +28,7 @@ kind-k-requires c = c.requires
 
 pub returns-then-not-within : goal.returns-then-not-within
 unfolding node_fine
-returns-then-not-within c = rw (← c.kind-k.ensures.0, sym c.within.ensures ∙ not-true _ c.if-not-within.true)
+returns-then-not-within c = rw (← c.kind-k.ensures.0, sym c.within.ensures ∙ c.if-not-within.true)
 
 pub owner-requires : goal.owner-requires
 owner-requires c = c.requires
@@ -37,17 +37,17 @@ pub owner_fine-requires : goal.owner_fine-requires
 owner_fine-requires c = c.requires.0
 
 pub returns-then-not-owner_fine : goal.returns-then-not-owner_fine
-returns-then-not-owner_fine c = owner-bad c.args.s.now c.args.i c.kind-k.ensures.0 c.owner.ensures.0 (sym c.owner_fine.ensures ∙ not-true _ c.if-not-owner_fine.true)
+returns-then-not-owner_fine c = owner-bad c.args.s.now c.args.i c.kind-k.ensures.0 c.owner.ensures.0 (sym c.owner_fine.ensures ∙ c.if-not-owner_fine.true)
 
 pub upper-u-requires : goal.upper-u-requires
 upper-u-requires c = c.requires
 
 pub returns-then-not-upper_fine : goal.returns-then-not-upper_fine
-returns-then-not-upper_fine c = upper-bad c.args.s.now c.args.i c.kind-k.ensures.0 c.upper-u.ensures.0 (sym c.upper_fine.ensures ∙ not-true _ c.if-not-upper_fine.true)
+returns-then-not-upper_fine c = upper-bad c.args.s.now c.args.i c.kind-k.ensures.0 c.upper-u.ensures.0 (sym c.upper_fine.ensures ∙ c.if-not-upper_fine.true)
 
 pub lower-requires : goal.lower-requires
 lower-requires c = c.requires
 
 pub returns : goal.returns
 returns c = node_by c.args.s.now c.args.i c.kind-k.ensures.0 c.owner.ensures.0 c.upper-u.ensures.0 c.lower.ensures.0
-    (sym c.within.ensures ∙ not-false _ c.if-not-within.false) (sym c.owner_fine.ensures ∙ not-false _ c.if-not-owner_fine.false) (sym c.upper_fine.ensures ∙ not-false _ c.if-not-upper_fine.false) c.lower_fine.ensures
+    (sym c.within.ensures ∙ c.if-not-within.false) (sym c.owner_fine.ensures ∙ c.if-not-owner_fine.false) (sym c.upper_fine.ensures ∙ c.if-not-upper_fine.false) c.lower_fine.ensures

@@ -14,18 +14,18 @@ use Rattle.table_read.proofs.Laws.{row_1, row_2, row_3, row_4, no_row, counted, 
 use Rattle.table_read.proofs.read_under.Goals as goal
 
 pub returns-then-not-frame_fine : goal.returns-then-not-frame_fine
-returns-then-not-frame_fine c = row_1 _ _ (sym c.frame_fine.ensures ∙ not-true _ c.if-not-frame_fine.true)
+returns-then-not-frame_fine c = row_1 _ _ (sym c.frame_fine.ensures ∙ c.if-not-frame_fine.true)
 
 pub counts-table-requires : goal.counts-table-requires
 counts-table-requires c =
     let frame : frame_fine c.args.s.now (under c.args.most) ≡ true =
-      sym c.frame_fine.ensures ∙ not-false _ c.if-not-frame_fine.false in
+      sym c.frame_fine.ensures ∙ c.if-not-frame_fine.false in
     let f = frame_facts c.args.s.now (under c.args.most) (frame) in omega arith
 
 pub bad_node-requires : goal.bad_node-requires
 bad_node-requires c =
     let frame : frame_fine c.args.s.now (under c.args.most) ≡ true =
-      sym c.frame_fine.ensures ∙ not-false _ c.if-not-frame_fine.false in
+      sym c.frame_fine.ensures ∙ c.if-not-frame_fine.false in
     let spans : Spans c.args.s.now c.counts-table.result =
       let f = frame_facts c.args.s.now (under c.args.most) (frame) in
       record {
@@ -40,7 +40,7 @@ bad_node-requires c =
 pub overflow_cast-result : goal.overflow_cast-result
 overflow_cast-result c =
     let frame : frame_fine c.args.s.now (under c.args.most) ≡ true =
-      sym c.frame_fine.ensures ∙ not-false _ c.if-not-frame_fine.false in
+      sym c.frame_fine.ensures ∙ c.if-not-frame_fine.false in
     let spans : Spans c.args.s.now c.counts-table.result =
       let f = frame_facts c.args.s.now (under c.args.most) (frame) in
       record {
@@ -58,13 +58,13 @@ overflow_cast-result c =
 pub returns-in-At : goal.returns-in-At
 returns-in-At c =
     let frame : frame_fine c.args.s.now (under c.args.most) ≡ true =
-      sym c.frame_fine.ensures ∙ not-false _ c.if-not-frame_fine.false in
+      sym c.frame_fine.ensures ∙ c.if-not-frame_fine.false in
     row_2 _ _ (frame) _ (sym c.bad_node.ensures ∙ ap found c.in-At.is)
 
 pub bad_edge-requires : goal.bad_edge-requires
 bad_edge-requires c =
     let frame : frame_fine c.args.s.now (under c.args.most) ≡ true =
-      sym c.frame_fine.ensures ∙ not-false _ c.if-not-frame_fine.false in
+      sym c.frame_fine.ensures ∙ c.if-not-frame_fine.false in
     let spans : Spans c.args.s.now c.counts-table.result =
       let f = frame_facts c.args.s.now (under c.args.most) (frame) in
       record {
@@ -79,7 +79,7 @@ bad_edge-requires c =
 pub overflow_cast-result-in-At-bad_edge : goal.overflow_cast-result-in-At-bad_edge
 overflow_cast-result-in-At-bad_edge c =
     let frame : frame_fine c.args.s.now (under c.args.most) ≡ true =
-      sym c.frame_fine.ensures ∙ not-false _ c.if-not-frame_fine.false in
+      sym c.frame_fine.ensures ∙ c.if-not-frame_fine.false in
     let spans : Spans c.args.s.now c.counts-table.result =
       let f = frame_facts c.args.s.now (under c.args.most) (frame) in
       record {
@@ -97,7 +97,7 @@ overflow_cast-result-in-At-bad_edge c =
 pub returns-in-At-bad_edge : goal.returns-in-At-bad_edge
 returns-in-At-bad_edge c =
     let frame : frame_fine c.args.s.now (under c.args.most) ≡ true =
-      sym c.frame_fine.ensures ∙ not-false _ c.if-not-frame_fine.false in
+      sym c.frame_fine.ensures ∙ c.if-not-frame_fine.false in
     let nodes-pass : lowest (λ k. not (node_fine c.args.s.now limits k)) (nodes c.args.s.now) ≡ none =
       sym c.bad_node.ensures ∙ ap found c.in_default.is in
     row_3 _ _ (frame) (nodes-pass) _ (sym c.bad_edge.ensures ∙ ap found c.in-At-bad_edge.is)
@@ -105,7 +105,7 @@ returns-in-At-bad_edge c =
 pub bad_shape-requires : goal.bad_shape-requires
 bad_shape-requires c =
     let frame : frame_fine c.args.s.now (under c.args.most) ≡ true =
-      sym c.frame_fine.ensures ∙ not-false _ c.if-not-frame_fine.false in
+      sym c.frame_fine.ensures ∙ c.if-not-frame_fine.false in
     let spans : Spans c.args.s.now c.counts-table.result =
       let f = frame_facts c.args.s.now (under c.args.most) (frame) in
       record {
@@ -124,7 +124,7 @@ bad_shape-requires c =
 pub overflow_cast-result-in-At-bad_shape : goal.overflow_cast-result-in-At-bad_shape
 overflow_cast-result-in-At-bad_shape c =
     let frame : frame_fine c.args.s.now (under c.args.most) ≡ true =
-      sym c.frame_fine.ensures ∙ not-false _ c.if-not-frame_fine.false in
+      sym c.frame_fine.ensures ∙ c.if-not-frame_fine.false in
     let spans : Spans c.args.s.now c.counts-table.result =
       let f = frame_facts c.args.s.now (under c.args.most) (frame) in
       record {
@@ -142,7 +142,7 @@ overflow_cast-result-in-At-bad_shape c =
 pub returns-in-At-bad_shape : goal.returns-in-At-bad_shape
 returns-in-At-bad_shape c =
     let frame : frame_fine c.args.s.now (under c.args.most) ≡ true =
-      sym c.frame_fine.ensures ∙ not-false _ c.if-not-frame_fine.false in
+      sym c.frame_fine.ensures ∙ c.if-not-frame_fine.false in
     let nodes-pass : lowest (λ k. not (node_fine c.args.s.now limits k)) (nodes c.args.s.now) ≡ none =
       sym c.bad_node.ensures ∙ ap found c.in_default.is in
     let edges-pass : lowest (λ k. not (edge_fine c.args.s.now k)) (edges c.args.s.now) ≡ none =
@@ -152,7 +152,7 @@ returns-in-At-bad_shape c =
 pub returns : goal.returns
 returns c =
     let frame : frame_fine c.args.s.now (under c.args.most) ≡ true =
-      sym c.frame_fine.ensures ∙ not-false _ c.if-not-frame_fine.false in
+      sym c.frame_fine.ensures ∙ c.if-not-frame_fine.false in
     let nodes-pass : lowest (λ k. not (node_fine c.args.s.now limits k)) (nodes c.args.s.now) ≡ none =
       sym c.bad_node.ensures ∙ ap found c.in_default.is in
     let edges-pass : lowest (λ k. not (edge_fine c.args.s.now k)) (edges c.args.s.now) ≡ none =

@@ -33,7 +33,7 @@ returns-then-not-shape_fine c =
       c.shape_fine.ensures t i c.kind.ensures.0 d fed (rank_tells (c.ranks-rk.ensures.1 i l)) in
     let l = c.loop-i in
     let t = c.args.s.now in
-    sym (fails_at (shape_fine t limits) (nodes t) l.i l.invariant.2 (sym (shape_is) ∙ not-true _ c.if-not-shape_fine.true) (omega arith))
+    sym (fails_at (shape_fine t limits) (nodes t) l.i l.invariant.2 (sym (shape_is) ∙ c.if-not-shape_fine.true) (omega arith))
 
 pub loop-i-preserved : goal.loop-i-preserved
 loop-i-preserved c =
@@ -44,7 +44,7 @@ loop-i-preserved c =
       let d = subst (λ z. Counts t i z) (sym c.degrees_at.ensures) (c.tally.ensures i l) in
       let fed = (c.mark_fed.ensures (blank limits.most_nodes)).tell i l in
       c.shape_fine.ensures t i c.kind.ensures.0 d fed (rank_tells (c.ranks-rk.ensures.1 i l)) in
-    (search rules, search rules, below_more _ _ c.loop-i.invariant.2 (sym (shape_is) ∙ not-false _ c.if-not-shape_fine.false))
+    (search rules, search rules, below_more _ _ c.loop-i.invariant.2 (sym (shape_is) ∙ c.if-not-shape_fine.false))
 
 pub returns : goal.returns
 returns c =

@@ -22,7 +22,7 @@ returns-then-not-is_control_node c =
     let free : eqb c.args.rank limits.chain_too_long ≡ chain t limits.chain_too_long i → chain t limits.chain_too_long i ≡ false =
       λ t i g. sym g ∙ ne_eqb _ _ c.if-rank-eq-HIGHEST.false in
     λ t i e h f g.
-    at_rest t i (free t i g) (λ v. c.if-k-eq-ACTION.false (e ∙ v)) (ap is_control_node (sym e) ∙ sym c.is_control_node.ensures ∙ not-true _ c.if-not-is_control_node.true)
+    at_rest t i (free t i g) (λ v. c.if-k-eq-ACTION.false (e ∙ v)) (ap is_control_node (sym e) ∙ sym c.is_control_node.ensures ∙ c.if-not-is_control_node.true)
 
 pub returns-then-k-eq-MERGE : goal.returns-then-k-eq-MERGE
 returns-then-k-eq-MERGE c =
@@ -42,5 +42,5 @@ returns c =
       λ t i g. sym g ∙ ne_eqb _ _ c.if-rank-eq-HIGHEST.false in
     λ t i e h f g.
     c.split_fine.ensures t i h
-    ∙ at_split t i (free t i g) (ap is_control_node (sym e) ∙ sym c.is_control_node.ensures ∙ not-false _ c.if-not-is_control_node.false)
+    ∙ at_split t i (free t i g) (ap is_control_node (sym e) ∙ sym c.is_control_node.ensures ∙ c.if-not-is_control_node.false)
     (λ v. c.if-k-eq-MERGE.false (e ∙ v)) (λ v. c.if-k-eq-JOIN.false (e ∙ v))

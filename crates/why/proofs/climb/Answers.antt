@@ -21,7 +21,7 @@ pub returns-then-not-is_left : goal.returns-then-not-is_left
 returns-then-not-is_left c = λ d s.
     let a = c.args in
     let l = c.loop-k in
-    let n : Whether (levels d a.node) (how_many d) (suc l.k) false = rw (not-true c.is_left.result c.if-not-is_left.true) at (c.is_left.ensures (omega arith) d s) in
+    let n : Whether (levels d a.node) (how_many d) (suc l.k) false = rw c.if-not-is_left.true at (c.is_left.ensures (omega arith) d s) in
     climbed_empty (levels d a.node) (how_many d) l.k (l.invariant.1 d s) n (l.k + 1) refl
 
 pub loop-k-preserved : goal.loop-k-preserved
@@ -30,7 +30,7 @@ loop-k-preserved c = (
   λ d s.
       let a = c.args in
       let l = c.loop-k in
-      let n : Whether (levels d a.node) (how_many d) (suc l.k) true = rw (not-false c.is_left.result c.if-not-is_left.false) at (c.is_left.ensures (omega arith) d s) in
+      let n : Whether (levels d a.node) (how_many d) (suc l.k) true = rw c.if-not-is_left.false at (c.is_left.ensures (omega arith) d s) in
       let e : suc l.k ≡ l.k + 1 = omega arith in
       subst (SomeLeft (levels d a.node) (how_many d)) e n,
 )

@@ -30,7 +30,7 @@ returns-then-not-built c =
       c.offered-built.ensures.1 l.current (goes_over (terms a.g.now a.bounds.now)) (fine-ties a.t.now a.g.now a.bounds.now f)
       (live-is-good a.t.now a.b.now (fields_held a.fields) l u) l.held in
     let a = c.args in
-    λ l f. board_8 a.t.now a.b.now a.g.now a.bounds.now c.requires.0 l f ((built l f).bad (not-true _ c.if-not-built.true))
+    λ l f. board_8 a.t.now a.b.now a.g.now a.bounds.now c.requires.0 l f ((built l f).bad c.if-not-built.true)
 
 pub arrange-answer-requires : goal.arrange-answer-requires
 arrange-answer-requires c =

@@ -11,37 +11,37 @@ use Rattle.marking.proofs.reading.judged.Goals as goal
 pub returns-then-not-walked : goal.returns-then-not-walked
 returns-then-not-walked c = let a = c.args in
     λ f w. read_none a.t.now a.b.now f a.kept.now a.tokens.now (Refused 5 0) refl
-    (walk_false a.t.now a.b.now f a.kept.now a.tokens.now a.walked (not-true _ c.if-not-walked.true) w)
+    (walk_false a.t.now a.b.now f a.kept.now a.tokens.now a.walked c.if-not-walked.true w)
 
 pub returns-then-not-settled : goal.returns-then-not-settled
 returns-then-not-settled c =
     let Walks : Type 0 =
       Walk c.args.t.now c.args.b.now from c.args.kept.now c.args.tokens.now c.args.walked in
     let its-walk : Walks → Walked c.args.t.now c.args.b.now from c.args.kept.now c.args.tokens.now =
-      λ w. walk_true c.args.t.now c.args.b.now from c.args.kept.now c.args.tokens.now c.args.walked (not-false _ c.if-not-walked.false) w in
+      λ w. walk_true c.args.t.now c.args.b.now from c.args.kept.now c.args.tokens.now c.args.walked c.if-not-walked.false w in
     let its-sense : (w : Walks) → c.settled.result ≡ marking_fine c.args.t.now (its-walk w).m =
       λ w. let x = its-walk w in c.settled.ensures x.m c.args.b.now from x.nodes-read x.edges-read x.state in
     let a = (c []).args in
-    λ f w. read-bad a.t.now a.b.now f a.kept.now a.tokens.now (Refused 5 0) (its-walk f w) refl (sym (its-sense f w) ∙ not-true _ c.if-not-settled.true)
+    λ f w. read-bad a.t.now a.b.now f a.kept.now a.tokens.now (Refused 5 0) (its-walk f w) refl (sym (its-sense f w) ∙ c.if-not-settled.true)
 
 pub returns-then-ended : goal.returns-then-ended
 returns-then-ended c =
     let Walks : Type 0 =
       Walk c.args.t.now c.args.b.now from c.args.kept.now c.args.tokens.now c.args.walked in
     let its-walk : Walks → Walked c.args.t.now c.args.b.now from c.args.kept.now c.args.tokens.now =
-      λ w. walk_true c.args.t.now c.args.b.now from c.args.kept.now c.args.tokens.now c.args.walked (not-false _ c.if-not-walked.false) w in
+      λ w. walk_true c.args.t.now c.args.b.now from c.args.kept.now c.args.tokens.now c.args.walked c.if-not-walked.false w in
     let its-sense : (w : Walks) → c.settled.result ≡ marking_fine c.args.t.now (its-walk w).m =
       λ w. let x = its-walk w in c.settled.ensures x.m c.args.b.now from x.nodes-read x.edges-read x.state in
     let a = (c []).args in
-    λ f w. read-good a.t.now a.b.now f a.kept.now a.tokens.now Ended (its-walk f w) (sym (its-sense f w) ∙ not-false _ c.if-not-settled.false) (ap good (sym c.if-ended.true))
+    λ f w. read-good a.t.now a.b.now f a.kept.now a.tokens.now Ended (its-walk f w) (sym (its-sense f w) ∙ c.if-not-settled.false) (ap good (sym c.if-ended.true))
 
 pub returns : goal.returns
 returns c =
     let Walks : Type 0 =
       Walk c.args.t.now c.args.b.now from c.args.kept.now c.args.tokens.now c.args.walked in
     let its-walk : Walks → Walked c.args.t.now c.args.b.now from c.args.kept.now c.args.tokens.now =
-      λ w. walk_true c.args.t.now c.args.b.now from c.args.kept.now c.args.tokens.now c.args.walked (not-false _ c.if-not-walked.false) w in
+      λ w. walk_true c.args.t.now c.args.b.now from c.args.kept.now c.args.tokens.now c.args.walked c.if-not-walked.false w in
     let its-sense : (w : Walks) → c.settled.result ≡ marking_fine c.args.t.now (its-walk w).m =
       λ w. let x = its-walk w in c.settled.ensures x.m c.args.b.now from x.nodes-read x.edges-read x.state in
     let a = (c []).args in
-    λ f w. read-good a.t.now a.b.now f a.kept.now a.tokens.now Live (its-walk f w) (sym (its-sense f w) ∙ not-false _ c.if-not-settled.false) (ap good (sym c.if-ended.false))
+    λ f w. read-good a.t.now a.b.now f a.kept.now a.tokens.now Live (its-walk f w) (sym (its-sense f w) ∙ c.if-not-settled.false) (ap good (sym c.if-ended.false))

@@ -20,10 +20,10 @@ node_clear-requires c = let h = c.requires in (h.0, omega arith, h.1)
 pub returns-then-not-node_clear : goal.returns-then-not-node_clear
 returns-then-not-node_clear c = let t = c.args.t.now in
     let n = read-spans t c.requires.0 in
-    λ m b f h. sym (all_fails (node_clear t m) (nodes t) c.loop-i.i (omega arith) (sym (c.node_clear.ensures m b f h) ∙ not-true _ c.if-not-node_clear.true))
+    λ m b f h. sym (all_fails (node_clear t m) (nodes t) c.loop-i.i (omega arith) (sym (c.node_clear.ensures m b f h) ∙ c.if-not-node_clear.true))
 
 pub loop-i-preserved : goal.loop-i-preserved
-loop-i-preserved c = (omega arith, λ m b f h. below_more _ _ (c.loop-i.invariant.1 m b f h) (sym (c.node_clear.ensures m b f h) ∙ not-false _ c.if-not-node_clear.false))
+loop-i-preserved c = (omega arith, λ m b f h. below_more _ _ (c.loop-i.invariant.1 m b f h) (sym (c.node_clear.ensures m b f h) ∙ c.if-not-node_clear.false))
 
 pub returns : goal.returns
 returns c = let t = c.args.t.now in

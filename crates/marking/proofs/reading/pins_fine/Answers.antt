@@ -20,10 +20,10 @@ pin_fine-requires c = let h = c.requires in (h.0, omega arith, h.1)
 pub returns-then-not-pin_fine : goal.returns-then-not-pin_fine
 returns-then-not-pin_fine c = let t = c.args.t.now in
     let n = read-spans t c.requires.0 in
-    λ m b f h. sym (all_fails (pin_fine t m) (nodes t) c.loop-p.p (omega arith) (sym (c.pin_fine.ensures m b f h) ∙ not-true _ c.if-not-pin_fine.true))
+    λ m b f h. sym (all_fails (pin_fine t m) (nodes t) c.loop-p.p (omega arith) (sym (c.pin_fine.ensures m b f h) ∙ c.if-not-pin_fine.true))
 
 pub loop-p-preserved : goal.loop-p-preserved
-loop-p-preserved c = (omega arith, λ m b f h. below_more _ _ (c.loop-p.invariant.1 m b f h) (sym (c.pin_fine.ensures m b f h) ∙ not-false _ c.if-not-pin_fine.false))
+loop-p-preserved c = (omega arith, λ m b f h. below_more _ _ (c.loop-p.invariant.1 m b f h) (sym (c.pin_fine.ensures m b f h) ∙ c.if-not-pin_fine.false))
 
 pub returns : goal.returns
 returns c = let t = c.args.t.now in

@@ -18,10 +18,10 @@ pub guard_fine-requires : goal.guard_fine-requires
 guard_fine-requires c = let h = c.requires in (h, omega arith, omega arith)
 
 pub returns-then-not-guard_fine : goal.returns-then-not-guard_fine
-returns-then-not-guard_fine c = let a = c.args in let s = c.requires in sym (guards-fail a.t.now a.g.now (omega arith) c.loop-j.j (omega arith) (sym c.guard_fine.ensures ∙ not-true _ c.if-not-guard_fine.true))
+returns-then-not-guard_fine c = let a = c.args in let s = c.requires in sym (guards-fail a.t.now a.g.now (omega arith) c.loop-j.j (omega arith) (sym c.guard_fine.ensures ∙ c.if-not-guard_fine.true))
 
 pub loop-j-preserved : goal.loop-j-preserved
-loop-j-preserved c = (omega arith, below_more _ _ c.loop-j.invariant.1 (sym c.guard_fine.ensures ∙ not-false _ c.if-not-guard_fine.false))
+loop-j-preserved c = (omega arith, below_more _ _ c.loop-j.invariant.1 (sym c.guard_fine.ensures ∙ c.if-not-guard_fine.false))
 
 pub returns : goal.returns
 returns c = let a = c.args in let s = c.requires in sym (guards_pass a.t.now a.g.now (omega arith) (λ k l. c.loop-j.invariant.1 k (omega arith)))
