@@ -7,6 +7,7 @@ use Rattle.table.proofs.Reading.{read-spans}
 use Rattle.marking_write.specs.Writing.{edge_size}
 use Rattle.wire.proofs.Runs.{total-more}
 use borrow.Author.Rules.{rules}
+use Rattle.wire.specs.Totals.{total}
 use Rattle.marking_write.proofs.edges_size.Goals as goal
 
 pub overflow_add-taken : goal.overflow_add-taken
@@ -22,3 +23,7 @@ returns c = let a = c.args in
     let l = c.loop-j in
     let e : l.j ≡ edges a.t.now = omega arith in
     (rw (← e) l.invariant.1, omega arith)
+
+pub loop-j-init : goal.loop-j-init
+unfolding total
+loop-j-init c = search rules

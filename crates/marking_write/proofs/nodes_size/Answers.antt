@@ -1,4 +1,6 @@
 -- `nodes_size` is what the nodes' fields take. The invariant: the sum of those passed, of which none exceeds the most that a node takes. Assumes nothing.
+use Rattle.wire.specs.Totals.{total}
+use borrow.Author.Rules.{rules}
 use Rattle.marking_write.proofs.WritingLaws.{size_same}
 use mathlib.Core.Path.{◌≡◌}
 use Prim.Native.Nat.{◌-◌}
@@ -20,3 +22,7 @@ returns c = let a = c.args in
     let l = c.loop-i in
     let e : l.i ≡ nodes a.t.now = omega arith in
     (rw (← e) l.invariant.1, omega arith)
+
+pub loop-i-init : goal.loop-i-init
+unfolding total
+loop-i-init c = search rules

@@ -6,6 +6,8 @@ use native.Mathlib.Omega.{arith}
 use Rattle.paper.specs.Table.{edges}
 use Rattle.wire.proofs.Runs.{total-more, total-room}
 use Rattle.marking_write.specs.Writing.{edge_size}
+use Rattle.wire.specs.Totals.{total}
+use borrow.Author.Rules.{rules}
 use Rattle.marking_write.proofs.WritingLaws.{edge-run}
 use Rattle.marking_write.proofs.write_edges.Goals as goal
 
@@ -28,3 +30,7 @@ returns c = let s = read-spans c.args.t.now c.requires.0 in
     let l = c.loop-j in
     let e : l.j ≡ edges c.args.t.now = omega arith in
     rw (← e) l.invariant.3
+
+pub loop-j-init : goal.loop-j-init
+unfolding total
+loop-j-init c = search rules

@@ -1,5 +1,7 @@
 -- `write_nodes` stores the nodes' fields as one run. The invariant: the fields passed are stored, and the next starts where they end. Assumes nothing.
 use mathlib.Core.Path.{◌≡◌, refl}
+use Rattle.wire.specs.Totals.{total}
+use borrow.Author.Rules.{rules}
 use Rattle.marking_write.proofs.WritingLaws.{size_same, node-inside, node-run}
 use Prim.Native.Nat.{◌-◌, ◌<◌}
 use native.Mathlib.Omega.{arith}
@@ -45,3 +47,7 @@ pub returns : goal.returns
 returns c = let l = c.loop-i in
     let e : l.i ≡ nodes c.args.t.now = omega (arith, c.requires.0.nodes-read, l.invariant.0, c.loop-i-test.false) in
     rw (← e) (l.invariant.1, l.invariant.3)
+
+pub loop-i-init : goal.loop-i-init
+unfolding total
+loop-i-init c = search rules

@@ -4,6 +4,8 @@ use mathlib.Core.Path.{◌≡◌, ◌∙◌}
 use native.Mathlib.Omega.{arith}
 use Rattle.wire.proofs.Runs.{total-more, total-room, run_more}
 use Rattle.sheet_write.specs.Listing.{end_takes, end_shown, sheet_takes}
+use Rattle.wire.specs.Totals.{total}
+use borrow.Author.Rules.{rules}
 use Rattle.sheet_write.proofs.Laws.{length-end}
 use Rattle.sheet_write.proofs.write_ends.Goals as goal
 
@@ -28,3 +30,7 @@ loop-k-preserved c = let a = c.args in
 pub returns : goal.returns
 returns c = let e : c.loop-k.k ≡ c.args.n = omega arith in
     rw (← e) c.loop-k.invariant.3
+
+pub loop-k-init : goal.loop-k-init
+unfolding total
+loop-k-init c = search rules

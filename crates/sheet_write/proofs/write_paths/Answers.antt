@@ -8,6 +8,8 @@ use Rattle.paper.specs.Limits.{limits}
 use Rattle.wire.proofs.Runs.{total-more, total-room, run_more}
 use Rattle.ends_paths.specs.Blocks.{first_block}
 use Rattle.sheet_write.specs.Listing.{path_shown, path_of, path_takes}
+use Rattle.wire.specs.Totals.{total}
+use borrow.Author.Rules.{rules}
 use Rattle.sheet_write.proofs.Laws.{length-path}
 use Rattle.sheet_write.proofs.write_paths.Goals as goal
 
@@ -45,3 +47,7 @@ returns c = let a = c.args in
     let l = c.loop-j in
     let e : l.j ≡ a.m = omega arith in
     (rw (← e) l.invariant.1, rw (← e) l.invariant.3)
+
+pub loop-j-init : goal.loop-j-init
+unfolding total
+loop-j-init c = search rules
