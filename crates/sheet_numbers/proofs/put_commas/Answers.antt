@@ -1,7 +1,6 @@
 -- `put_commas` writes the first number, then each further one behind a comma. Assumes nothing.
 use mathlib.Core.Path.{refl, sym, ap, ◌∙◌}
 use mathlib.Core.List.{◌∷◌}
-use Prim.Native.Nat.{◌-◌}
 use native.Mathlib.Omega.{arith}
 use Rattle.paper.specs.Program.{decimal}
 use Rattle.sheet_numbers.proofs.Writing.{wrote_one, wrote_as, wrote_long, wrote_then, writing_none, writing_on, writing_long, writing_done}
