@@ -9,6 +9,7 @@ use borrow.Author.Rules.{rules}
 use Rattle.words.specs.Clash.{hit}
 use Rattle.offers.specs.Rows.{rows_in, Hits}
 use Rattle.offers.proofs.Sets.{marks_nil, marks_skip, marks-more}
+use Rattle.offers.proofs.clashes.Goals.{then-hits, else-hits}
 use Rattle.offers.proofs.clashes.Goals as goal
 
 pub loop-j-init : goal.loop-j-init
@@ -20,3 +21,19 @@ returns c =
     let a = c.args in
     let e : l.j ≡ a.count = omega arith in
     subst (λ j. Hits (rows_in a.rows.now a.count) a.n a.k a.a a.c j l.d) e l.invariant.1
+
+pub loop-j-preserved : goal.loop-j-preserved
+loop-j-preserved c =
+    let l = c.loop-j in
+    let a = c.args in
+    let r = rows_in a.rows.now a.count in
+    let p : ℕ → Bool = λ j. hit a.n a.k a.a (r.entry j).node (r.entry j).parents a.c in
+    let e = c.hits.ensures in (
+      search rules,
+      elim c.if-hits.branch [
+        then-hits w ↦ subst (λ d. Hits r a.n a.k a.a a.c (l.j + 1) d) (ap (λ b. bit_or l.d b) (sym w.bit_of-d.ensures) ∙ sym w.d-is)
+          (marks-more p l.j l.d (sym e ∙ w.if-hits.true) l.invariant.1)
+      | else-hits w ↦ subst (λ d. Hits r a.n a.k a.a a.c (l.j + 1) d) (sym w.d-is)
+          (marks_skip p l.j l.d (sym e ∙ w.if-hits.false) l.invariant.1)
+      ],
+    )
