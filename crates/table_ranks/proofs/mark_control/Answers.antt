@@ -1,7 +1,6 @@
 -- `mark_control` marks the control nodes. The invariant: the marks are those of the nodes passed. Assumes nothing.
 use mathlib.Core.Path.{◌∙◌, ap, refl}
 use mathlib.Core.Bool.{false}
-use Prim.Native.Nat.{◌-◌}
 use native.Mathlib.Omega.{arith}
 use borrow.Author.Rules.{rules}
 use Rattle.paper.specs.Table.{nodes, kind, is_control_node}

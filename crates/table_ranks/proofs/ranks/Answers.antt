@@ -1,8 +1,6 @@
 -- `ranks` meets its contract. The invariant: ranks tell chains of up to k nodes. Assumes nothing.
 use mathlib.Core.Path.{◌≡◌}
-use Prim.Native.Nat.{◌-◌}
 use native.Mathlib.Omega.{arith}
-use borrow.Author.Tests.{not-true}
 use Rattle.paper.specs.Limits.{limits}
 use Rattle.table.proofs.Reading.{blank}
 use borrow.Author.Rules.{rules}
