@@ -1,10 +1,9 @@
 -- `write_choice`: the taken ends, one after the other. Assumes nothing.
-use Prim.Native.Nat.{◌-◌}
 use mathlib.Core.Path.{◌≡◌, sym, ◌∙◌}
-use mathlib.Core.Logic.{⊎_elim}
 use native.Mathlib.Omega.{arith}
 use Rattle.choice.proofs.Laws.{Writing, writing_none, writing_in, writing_out, writing_long, writing_done, numbers-room}
 use Rattle.choice.proofs.write_choice.Goals as goal
+use Rattle.choice.proofs.write_choice.Goals.{then-is_taken, else-is_taken}
 
 pub loop-k-init : goal.loop-k-init
 loop-k-init c = (omega arith, writing_none c.args.c c.args.out.now)
@@ -20,8 +19,13 @@ overflow_add-to c = let a = c.args in
     omega (arith, s.invariant.1.next, writing_long s.invariant.1, numbers-room a.c a.n s.k c.loop-k-test.true (sym c.is_taken.ensures ∙ c.if-is_taken.true))
 
 pub loop-k-preserved : goal.loop-k-preserved
-loop-k-preserved c = let s = c.loop-k in
-    (omega arith, ⊎_elim (λ w. rw (w.1, w.2) (writing_in s.invariant.1 (sym c.is_taken.ensures ∙ w.0.taken))) (λ w. rw (w.1, w.2) (writing_out s.invariant.1 (sym c.is_taken.ensures ∙ w.0.left))) c.if-is_taken.branch)
+loop-k-preserved c = let s = c.loop-k in (
+  omega arith,
+  elim c.if-is_taken.branch [
+    | then-is_taken w ↦ rw (w.out-is, w.to-is) (writing_in s.invariant.1 (sym c.is_taken.ensures ∙ w.if-is_taken.true))
+    | else-is_taken w ↦ rw (w.out-is, w.to-is) (writing_out s.invariant.1 (sym c.is_taken.ensures ∙ w.if-is_taken.false))
+  ],
+)
 
 pub shape_of-out : goal.shape_of-out
 shape_of-out c = writing_long c.loop-k.invariant.1
