@@ -1,6 +1,5 @@
 -- `fill_masks`: one end after the other. The invariant: the words mark the ends below k. Assumes nothing.
 use mathlib.Core.Path.{refl}
-use Prim.Native.Nat.{◌-◌}
 use native.Mathlib.Omega.{arith}
 use borrow.Author.Rules.{rules}
 use Rattle.choice_masks.proofs.Masking.{masked_none, masked_more, masked_all}
