@@ -1,7 +1,6 @@
 -- `read`: row 5, or the state and what is taken up. Assumes nothing.
 use mathlib.Core.Path.{refl}
 use native.Mathlib.Omega.{arith}
-use borrow.Author.Tests.{not-true, not-false}
 use Rattle.marking.specs.Reading.{Head}
 use Rattle.marking.specs.declared.reading.MarkingAnswer.TheVariants.{Refused}
 use Rattle.marking.proofs.Laws.{read_none}
@@ -24,10 +23,10 @@ judged-requires c =
     let head_read : Head c.args.b.now =
       c.head_fine.ensures.0 c.if-not-head_fine.false in
     let h = c.requires in
-    (h.0, (head_read).long, omega (arith, c.walk-walked.kept), omega (arith, c.walk-walked.kept))
+    (h.0, (head_read).long, omega (arith, c.walk-walked.auto), omega (arith, c.walk-walked.auto))
 
 pub returns : goal.returns
 returns c =
     let head_read : Head c.args.b.now =
       c.head_fine.ensures.0 c.if-not-head_fine.false in
-    c.judged.ensures c.walk-walked.last.1.1.1.0 (c.walk-walked.ensures (head_read))
+    c.judged.ensures c.walk-walked.new.from (c.walk-walked.ensures (head_read))

@@ -19,7 +19,7 @@ returns-in-Bad c =
       λ e r. let a = c.args in
       let t = a.t.now in
       let w = c.nodes_end.new in
-      ReadsInto (λ m. NodesRead t m a.b.now w.1.1.1.0 w.1.1.1.1.0 (nodes t)) r
+      ReadsInto (λ m. NodesRead t m a.b.now w.from w.kept (nodes t)) r
       (fields_read t (gather (node_fields t) (below (nodes t))) (blank e) (drop 4 a.b.now)) a.b.now in
     let a = c.args in
     let e = eqb (at a.b.now 3) 1 in
@@ -31,9 +31,9 @@ edges_end-requires c =
       λ e r. let a = c.args in
       let t = a.t.now in
       let w = c.nodes_end.new in
-      ReadsInto (λ m. NodesRead t m a.b.now w.1.1.1.0 w.1.1.1.1.0 (nodes t)) r
+      ReadsInto (λ m. NodesRead t m a.b.now w.from w.kept (nodes t)) r
       (fields_read t (gather (node_fields t) (below (nodes t))) (blank e) (drop 4 a.b.now)) a.b.now in
-    let nodes-good : Nodes-say e (At c.in-At.q) =
+    let nodes-good : (e : Bool) → Nodes-say e (At c.in-At.q) =
       λ e. subst (Nodes-say e) c.in-At.is (c.nodes_end.ensures e) in
     let h = c.requires in
     (h.0, (nodes-good false).2, h.4)
@@ -44,14 +44,14 @@ returns-in-Bad-edges_end c =
       λ e r. let a = c.args in
       let t = a.t.now in
       let w = c.nodes_end.new in
-      ReadsInto (λ m. NodesRead t m a.b.now w.1.1.1.0 w.1.1.1.1.0 (nodes t)) r
+      ReadsInto (λ m. NodesRead t m a.b.now w.from w.kept (nodes t)) r
       (fields_read t (gather (node_fields t) (below (nodes t))) (blank e) (drop 4 a.b.now)) a.b.now in
     let Edges-say : Marking → Next → Type 0 =
       λ m r. let a = c.args in
       let t = a.t.now in
-      ReadsInto (λ m. EdgesRead t m c.edges_end.new.1.1.1.1.0 (edges t)) r
+      ReadsInto (λ m. EdgesRead t m c.edges_end.new.tokens (edges t)) r
       (fields_read t (gather (edge_fields t) (below (edges t))) m (drop c.in-At.q a.b.now)) a.b.now in
-    let nodes-good : Nodes-say e (At c.in-At.q) =
+    let nodes-good : (e : Bool) → Nodes-say e (At c.in-At.q) =
       λ e. subst (Nodes-say e) c.in-At.is (c.nodes_end.ensures e) in
     let a = c.args in
     let q = c.in-At.q in
@@ -64,14 +64,14 @@ returns c =
       λ e r. let a = c.args in
       let t = a.t.now in
       let w = c.nodes_end.new in
-      ReadsInto (λ m. NodesRead t m a.b.now w.1.1.1.0 w.1.1.1.1.0 (nodes t)) r
+      ReadsInto (λ m. NodesRead t m a.b.now w.from w.kept (nodes t)) r
       (fields_read t (gather (node_fields t) (below (nodes t))) (blank e) (drop 4 a.b.now)) a.b.now in
     let Edges-say : Marking → Next → Type 0 =
       λ m r. let a = c.args in
       let t = a.t.now in
-      ReadsInto (λ m. EdgesRead t m c.edges_end.new.1.1.1.1.0 (edges t)) r
+      ReadsInto (λ m. EdgesRead t m c.edges_end.new.tokens (edges t)) r
       (fields_read t (gather (edge_fields t) (below (edges t))) m (drop c.in-At.q a.b.now)) a.b.now in
-    let nodes-good : Nodes-say e (At c.in-At.q) =
+    let nodes-good : (e : Bool) → Nodes-say e (At c.in-At.q) =
       λ e. subst (Nodes-say e) c.in-At.is (c.nodes_end.ensures e) in
     let a = c.args in
     let b = a.b.now in

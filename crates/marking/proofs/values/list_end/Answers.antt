@@ -1,5 +1,6 @@
 -- `list_end` reads one list, if the node has one. Assumes nothing.
 use mathlib.Core.Path.{sym, ◌∙◌}
+use Rattle.std.proofs.Common.{[]}
 use lib.ListN.{drop}
 use Rattle.marking.proofs.ValueLaws.{list_reads, no_list}
 use Rattle.marking.proofs.values.list_end.Goals as goal
