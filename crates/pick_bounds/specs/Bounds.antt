@@ -1,7 +1,7 @@
 -- What each step of the search promises. A set is looked for between two others, `must` and `may`, which are words of 32 digits; a step may draw them
 -- closer together, and loses no set that passes. Assumes nothing.
-use Rattle.std.specs.Prelude.{ℕ, ◌≤◌, ◌<◌, ◌≡◌, Bool, true, false, not, ◌&&◌, List, leb}
-use Rattle.paper.specs.Lists.{at, has, below, all}
+use Rattle.std.specs.Prelude.{ℕ, ◌<◌, ◌≡◌, Bool, true, not, ◌&&◌, List, leb}
+use Rattle.paper.specs.Lists.{has, below, all}
 use Rattle.paper.specs.Limits.{limits}
 use Rattle.pick_bounds.specs.declared.Wanted.{Wanted}
 use Rattle.pick_bounds.specs.declared.Rule.{Rule}

@@ -1,5 +1,5 @@
 -- Ends that a net doesn't tell apart. Assumes nothing.
-use Rattle.std.specs.Prelude.{ℕ, ◌+◌, ◌*◌, ◌<◌, ◌≡◌, Bool, true, List}
+use Rattle.std.specs.Prelude.{ℕ, ◌<◌, ◌≡◌, Bool, true, List}
 use Rattle.paper.specs.Lists.{at, has}
 use Rattle.paper.specs.Limits.{limits}
 use Rattle.pick_bounds.specs.declared.Bounds.{Bounds}

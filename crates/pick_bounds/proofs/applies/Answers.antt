@@ -1,9 +1,7 @@
 -- `applies`: an end that is taken, or all that are wanted, are among them. Assumes nothing.
-use mathlib.Core.Path.{refl, sym, ◌∙◌}
-use mathlib.Core.Bool.{false}
+use mathlib.Core.Path.{sym, ◌∙◌}
 use native.Mathlib.Omega.{arith}
 use borrow.Author.Tests.{eqb-true}
-use Rattle.paper.proofs.Bools.{never}
 use Rattle.pick_bounds.proofs.Pruning.{taken-meets, wanted-meets}
 use Rattle.pick_bounds.proofs.applies.Goals as goal
 
@@ -11,9 +9,6 @@ pub returns-then-meets : goal.returns-then-meets
 returns-then-meets c = λ e. let a = c.args in
     taken-meets a.want a.when a.b (sym c.meets.ensures ∙ c.if-meets.true)
 
-pub returns-then-want-eq0 : goal.returns-then-want-eq0
-returns-then-want-eq0 c = λ e. never false e refl
-
 pub returns : goal.returns
 returns c = λ e. let a = c.args in
-    wanted-meets a.want a.when a.b (omega (arith, c.if-want-eq0.false)) (eqb-true _ _ e)
+    wanted-meets a.want a.when a.b (omega arith) (eqb-true _ _ e)

@@ -2,7 +2,7 @@
 use mathlib.Core.Path.{refl, sym, ◌∙◌}
 use mathlib.Core.Bool.{false}
 use native.Mathlib.Omega.{arith}
-use borrow.Author.Tests.{not-true, ltb-true}
+use borrow.Author.Tests.{ltb-true}
 use Rattle.paper.proofs.Bools.{never}
 use Rattle.pick_bounds.proofs.Pruning.{breaks_low, breaks_high}
 use Rattle.pick_bounds.proofs.breaks.Goals as goal

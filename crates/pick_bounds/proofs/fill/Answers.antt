@@ -1,5 +1,4 @@
 -- `fill`: what is taken is all that may be. Assumes nothing.
-use borrow.Author.Tests.{not-false}
 use Rattle.pick_bounds.proofs.Pruning.{filled}
 use Rattle.pick_bounds.proofs.fill.Goals as goal
 

@@ -1,7 +1,6 @@
 -- `obeys`: by its tests. Assumes nothing.
 use mathlib.Core.Path.{sym, ◌∙◌}
 use native.Mathlib.Omega.{arith}
-use borrow.Author.Tests.{not-true, not-false}
 use Rattle.pick_bounds.proofs.Rules.{obeys-apart, obeys-short, obeys-free, obeys-full}
 use Rattle.pick_bounds.proofs.obeys.Goals as goal
 

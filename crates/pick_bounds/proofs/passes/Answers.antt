@@ -1,10 +1,9 @@
 -- `passes`: the invariant says that the set obeys the rules before i. Assumes nothing.
 use mathlib.Core.Path.{◌≡◌, sym, ap, ◌∙◌}
 use mathlib.Core.Bool.{true}
-use Prim.Native.Nat.{◌-◌}
 use native.Mathlib.Omega.{arith}
 use borrow.Author.Count.{below_more, below_none}
-use borrow.Author.Tests.{not-true, not-false, leb-true, leb-false}
+use borrow.Author.Tests.{leb-true, leb-false}
 use Rattle.pick_bounds.specs.declared.Rule.{Rule}
 use Rattle.pick_bounds.specs.Net.{held, obeys, rule_at}
 use Rattle.pick_bounds.proofs.Rules.{passes-all, passes_unwanted, passes_broken}

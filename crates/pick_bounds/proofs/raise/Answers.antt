@@ -1,5 +1,4 @@
 -- `raise`: what is left is just enough. Assumes nothing.
-use borrow.Author.Tests.{not-false}
 use Rattle.pick_bounds.proofs.Pruning.{raised}
 use Rattle.pick_bounds.proofs.raise.Goals as goal
 

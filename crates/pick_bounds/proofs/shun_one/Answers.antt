@@ -1,7 +1,6 @@
 -- `shun_one`: no set that passes has a rival of an end that it has. Assumes nothing.
 use mathlib.Core.Path.{sym, ◌∙◌}
 use native.Mathlib.Omega.{arith}
-use borrow.Author.Tests.{not-false}
 use Rattle.pick_bounds.proofs.Pruning.{keeps_all, shuns}
 use Rattle.pick_bounds.specs.Bounds.{good}
 use Rattle.pick_bounds.proofs.shun_one.Goals as goal

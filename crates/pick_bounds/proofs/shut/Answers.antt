@@ -1,5 +1,4 @@
 -- `shut`: no set that obeys the rule can meet it, or have more of its ends. Assumes nothing.
-use borrow.Author.Tests.{not-false}
 use Rattle.pick_bounds.proofs.Pruning.{shutting, shutting_full}
 use Rattle.pick_bounds.proofs.shut.Goals as goal
 

@@ -1,5 +1,4 @@
 -- `tighten`: the invariant says that what is wanted and the rules before i kept every set that passes. Assumes nothing.
-use Prim.Native.Nat.{◌-◌}
 use native.Mathlib.Omega.{arith}
 use Rattle.pick_bounds.specs.Bounds.{good}
 use Rattle.pick_bounds.proofs.Pruning.{keeps_all, keeps_then, keeps_rule, keeps_wanted}

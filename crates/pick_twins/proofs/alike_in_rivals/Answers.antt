@@ -1,6 +1,5 @@
 -- `alike_in_rivals`: the invariant says that the rivals of the ends before i tell none of `same` from end k. Assumes nothing.
 use native.Mathlib.Omega.{arith}
-use Prim.Native.Nat.{◌-◌}
 use Rattle.pick_twins.proofs.Telling.{ByRivals, before-none, before_more}
 use borrow.Author.Rules.{rules}
 use Rattle.pick_twins.proofs.alike_in_rivals.Goals as goal

@@ -1,6 +1,5 @@
 -- `alike_in_rules`: the invariant says that the rules before i tell none of `same` from end k. Assumes nothing.
 use native.Mathlib.Omega.{arith}
-use Prim.Native.Nat.{◌-◌}
 use Rattle.pick_twins.proofs.Telling.{ByRule, before-none, before_more, by_rule}
 use borrow.Author.Rules.{rules}
 use Rattle.pick_twins.proofs.alike_in_rules.Goals as goal

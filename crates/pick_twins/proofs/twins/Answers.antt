@@ -1,7 +1,6 @@
 -- `twins`: what each call leaves out, together. Assumes nothing.
 use mathlib.Core.Path.{sym, ◌∙◌}
 use native.Mathlib.Omega.{arith}
-use borrow.Author.Tests.{not-false}
 use Rattle.pick_twins.proofs.Telling.{no_end, twins_lack}
 use Rattle.pick_twins.proofs.twins.Goals as goal
 

@@ -20,7 +20,7 @@ loop-left-preserved c = let a = c.args in
     let f = c.first_of-j in
     let s = c.shared-kept in (
       λ j h. l.invariant.0 j (left-part l.left c.end_of.result c.without-left.result c.without-left.ensures j h),
-      kept_more (SharesRivals a.net.now a.k) a.ends l.auto s.result f.result (l.invariant.0 f.result f.ensures.1) l.invariant.1 s.ensures,
+      kept_more (SharesRivals a.net.now a.k) a.ends l.kept s.result f.result (l.invariant.0 f.result f.ensures.1) l.invariant.1 s.ensures,
     )
 
 pub returns : goal.returns
