@@ -3,7 +3,6 @@ use mathlib.Core.Path.{refl, sym, ◌∙◌}
 use Prim.Native.Nat.{◌+◌, ◌*◌}
 use native.Mathlib.Omega.{arith}
 use lib.ListN.{length-set, set}
-use borrow.Author.Tests.{not-true, not-false}
 use borrow.Author.Rules.{rules}
 use Rattle.offers.specs.Rows.{rows_in}
 use Rattle.offers_over.proofs.Outcomes.{led_blank, blank-cell, is_held, too_many}
@@ -49,7 +48,7 @@ pub overflow_add-result : goal.overflow_add-result
 overflow_add-result c = omega (arith, c.if-count-ge-MOST_OFFERS.false, c.requires)
 
 pub shape_of-rows : goal.shape_of-rows
-shape_of-rows c = omega (arith, simp length-set at c.grow.auto)
+shape_of-rows c = omega (arith, simp length-set at c.grow.auto.rows)
 
 pub returns : goal.returns
 returns c = (

@@ -2,6 +2,7 @@
 use mathlib.Core.Path.{◌≡◌, refl, sym, ◌∙◌}
 use Prim.Native.Nat.{◌≤◌, ◌<◌}
 use native.Mathlib.Omega.{arith}
+use Rattle.std.proofs.Common.{[]}
 use lib.ListN.{length}
 use borrow.Author.Rules.{rules}
 use Rattle.paper.specs.Offers.{over, paths}
@@ -60,7 +61,7 @@ returns c = λ t ts b fr y.
     let a = c.args in
     let p = c.paths_of-p in
     let g = c.lead in
-    let m = g.last.0 in
+    let m = g.new.rows in
     let l : a.i < length ts = omega (arith, b.count-is, c.requires.0.0) in
     let few : cell a.rows.now a.i 4 ≤ limits.most_paths = omega (arith, (b.rows a.i l).paths-are, (b.rows a.i l).few) in
     let n : p.result ≡ length (paths (nth ts a.i)) = p.ensures.0 ∙ sym (most_under (cell a.rows.now a.i 4) few) ∙ (b.rows a.i l).paths-are in

@@ -36,7 +36,7 @@ returns-then-not-g c = (
       let x = c.extend_one-g in
       let lb = c.loop-i-test.true in
       let w = x.ensures.1 t _ _ (extended_ext y l.i l.invariant.0.0 lb (l.invariant.1.1.1 t ts xs y)) in
-      let o = c.if-not-g.true in
+      let o = not-true _ c.if-not-g.true in
       too_many o (extended_bad y l.i l.invariant.0.0 lb (w.bad o)),
 )
 
@@ -52,10 +52,10 @@ loop-i-preserved c =
       (
         (le_trans l.invariant.1.0.0 x.ensures.0.0, x.ensures.0.1),
         (
-          x.auto.0 ∙ l.invariant.1.1.0,
+          x.auto.rows ∙ l.invariant.1.1.0,
           λ t ts xs y.
               let w = x.ensures.1 t _ _ (extended_ext y l.i l.invariant.0.0 lb (l.invariant.1.1.1 t ts xs y)) in
-              subst (λ z. Holds t (rows_in x.new.0 x.result.count) z) (extended_next y l.i l.invariant.0.0 lb) (w.good c.if-not-g.false),
+              subst (λ z. Holds t (rows_in x.new.rows x.result.count) z) (extended_next y l.i l.invariant.0.0 lb) (w.good (not-false _ c.if-not-g.false)),
         ),
       ),
     )

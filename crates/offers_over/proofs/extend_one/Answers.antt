@@ -1,7 +1,6 @@
 -- `offers_over::extend_one` meets its contract: the offer is barred, there is no room, or it is extended. Assumes nothing.
 use mathlib.Core.Path.{refl, sym, ◌∙◌}
 use native.Mathlib.Omega.{arith}
-use borrow.Author.Tests.{not-true, not-false}
 use borrow.Author.Rules.{rules}
 use Rattle.offers_over.proofs.Outcomes.{is_held, too_many}
 use Rattle.offers_over.proofs.Parts.{one_barred, one-is, one-fresh, one-full}

@@ -1,6 +1,5 @@
 -- `offers_over::pass` meets its contract: the loop goes through the list of the incoming edges. Assumes nothing.
 use mathlib.Core.Path.{refl, sym, ap, ◌∙◌, subst}
-use Prim.Native.Nat.{◌-◌}
 use native.Mathlib.Nat.{le_trans}
 use native.Mathlib.Omega.{arith}
 use lib.ListN.{get_or}
@@ -33,13 +32,13 @@ returns-then-not-g c = (
   search rules,
   λ t ts on y.
       let p = c.loop-j.invariant.1.1 t ts on y in
-      let w = c.extend_all-g.ensures.1 t _ _ (passing_ext y p c.loop-j-test.taken c.wide-a.ensures.0 c.wide-b.ensures.0) in
-      let o = c.if-not-g.true in
-      too_many o (passing_bad y p c.loop-j-test.taken (w.bad o)),
+      let w = c.extend_all-g.ensures.1 t _ _ (passing_ext y p c.loop-j-test.true c.wide-a.ensures.0 c.wide-b.ensures.0) in
+      let o = not-true _ c.if-not-g.true in
+      too_many o (passing_bad y p c.loop-j-test.true (w.bad o)),
 )
 
 pub loop-j-smaller : goal.loop-j-smaller
-loop-j-smaller c = omega (arith, c.loop-j-test.taken, c.requires.1.forward c.loop-j.j c.loop-j-test.taken, c.wide-j-in-loop-j.ensures.0)
+loop-j-smaller c = omega (arith, c.loop-j-test.true, c.requires.1.forward c.loop-j.j c.loop-j-test.true, c.wide-j-in-loop-j.ensures.0)
 
 pub loop-j-preserved : goal.loop-j-preserved
 loop-j-preserved c =
@@ -47,11 +46,11 @@ loop-j-preserved c =
     let x = c.extend_all-g in (
       (le_trans l.invariant.0.0 x.ensures.0.0, x.ensures.0.1),
       (
-        x.auto.0 ∙ l.invariant.1.0,
+        x.auto.rows ∙ l.invariant.1.0,
         λ t ts on y.
             let p = l.invariant.1.1 t ts on y in
-            let w = x.ensures.1 t _ _ (passing_ext y p c.loop-j-test.taken c.wide-a.ensures.0 c.wide-b.ensures.0) in
-            passing_more y p c.loop-j-test.taken c.wide-j-in-loop-j.ensures.0 (w.good c.if-not-g.false),
+            let w = x.ensures.1 t _ _ (passing_ext y p c.loop-j-test.true c.wide-a.ensures.0 c.wide-b.ensures.0) in
+            passing_more y p c.loop-j-test.true c.wide-j-in-loop-j.ensures.0 (w.good (not-false _ c.if-not-g.false)),
       ),
     )
 
