@@ -11,7 +11,7 @@ use lib.Dec.{leb, eqb}
 use lib.ListN.{length, set, length-set}
 use lib.Seq.{get_or-set_same, get_or-set_other}
 use borrow.Author.Tests.{leb-true, eqb-true, eqb-false, eq-eqb, ne_eqb}
-use Rattle.paper.specs.Lists.{at, below, any, keep, count, one_if}
+use Rattle.paper.specs.Lists.{at, below, keep, count, one_if}
 use Rattle.paper.specs.Limits.{limits}
 use Rattle.paper.specs.Table.{edges, kind, edge_kind, source, target, is_object, is_control, into, out, is_control_node, chain, degrees_fine, one_kind, join_fine, action_fine, chain_fine, shape_fine}
 use Rattle.paper.proofs.Bools.{never, and_both, or_left, iff}

@@ -1,10 +1,9 @@
 -- `bad_shape` finds the lowest node that row 4 refuses. The invariant: every node passed is fine. Assumes nothing.
 use mathlib.Core.Path.{◌≡◌, ◌∙◌, sym, subst}
 use mathlib.Core.Bool.{true}
-use Prim.Native.Nat.{◌<◌, ◌-◌, ◌*◌}
+use Prim.Native.Nat.{◌<◌, ◌*◌}
 use native.Mathlib.Omega.{arith}
 use borrow.Author.Count.{below_more, below_none}
-use borrow.Author.Tests.{not-true, not-false}
 use borrow.Author.Rules.{rules}
 use Rattle.paper.specs.Limits.{limits}
 use Rattle.paper.specs.Table.{nodes, shape_fine}
@@ -25,12 +24,12 @@ loop-i-init c = (search rules, search rules, below_none (λ k. shape_fine c.args
 pub returns-then-not-shape_fine : goal.returns-then-not-shape_fine
 returns-then-not-shape_fine c =
     let shape_is : c.shape_fine.result ≡ shape_fine c.args.s.now limits c.loop-i.i =
-      let t = c.args.s.now in
-      let i = c.loop-i.i in
-      let l : i < nodes t = omega arith in
-      let d = subst (λ z. Counts t i z) (sym c.degrees_at.ensures) (c.tally.ensures i l) in
-      let fed = (c.mark_fed.ensures (blank limits.most_nodes)).tell i l in
-      c.shape_fine.ensures t i c.kind.ensures.0 d fed (rank_tells (c.ranks-rk.ensures.1 i l)) in
+    let t = c.args.s.now in
+    let i = c.loop-i.i in
+    let l : i < nodes t = omega arith in
+    let d = subst (λ z. Counts t i z) (sym c.degrees_at.ensures) (c.tally.ensures i l) in
+    let fed = (c.mark_fed.ensures (blank limits.most_nodes)).tell i l in
+    c.shape_fine.ensures t i c.kind.ensures.0 d fed (rank_tells (c.ranks-rk.ensures.1 i l)) in
     let l = c.loop-i in
     let t = c.args.s.now in
     sym (fails_at (shape_fine t limits) (nodes t) l.i l.invariant.2 (sym (shape_is) ∙ c.if-not-shape_fine.true) (omega arith))
@@ -38,12 +37,12 @@ returns-then-not-shape_fine c =
 pub loop-i-preserved : goal.loop-i-preserved
 loop-i-preserved c =
     let shape_is : c.shape_fine.result ≡ shape_fine c.args.s.now limits c.loop-i.i =
-      let t = c.args.s.now in
-      let i = c.loop-i.i in
-      let l : i < nodes t = omega arith in
-      let d = subst (λ z. Counts t i z) (sym c.degrees_at.ensures) (c.tally.ensures i l) in
-      let fed = (c.mark_fed.ensures (blank limits.most_nodes)).tell i l in
-      c.shape_fine.ensures t i c.kind.ensures.0 d fed (rank_tells (c.ranks-rk.ensures.1 i l)) in
+    let t = c.args.s.now in
+    let i = c.loop-i.i in
+    let l : i < nodes t = omega arith in
+    let d = subst (λ z. Counts t i z) (sym c.degrees_at.ensures) (c.tally.ensures i l) in
+    let fed = (c.mark_fed.ensures (blank limits.most_nodes)).tell i l in
+    c.shape_fine.ensures t i c.kind.ensures.0 d fed (rank_tells (c.ranks-rk.ensures.1 i l)) in
     (search rules, search rules, below_more _ _ c.loop-i.invariant.2 (sym (shape_is) ∙ c.if-not-shape_fine.false))
 
 pub returns : goal.returns

@@ -1,7 +1,7 @@
 -- `join_fine` by its parts, in numbers. Assumes nothing.
 use mathlib.Core.Path.{sym, ◌∙◌}
 use mathlib.Core.Bool.{and-false}
-use borrow.Author.Tests.{not-true, not-false, le-leb, lt-leb}
+use borrow.Author.Tests.{le-leb, lt-leb}
 use Rattle.table_shape.specs.Shape.{meets_in}
 use Rattle.table_shape.proofs.join_fine.Goals as goal
 

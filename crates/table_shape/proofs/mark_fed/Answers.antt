@@ -1,7 +1,6 @@
 -- `mark_fed` marks the actions that a pin feeds. The invariant: the marks are those of the nodes passed. Assumes nothing.
 use mathlib.Core.Path.{sym, refl}
 use mathlib.Core.Bool.{false, ◌&&◌}
-use Prim.Native.Nat.{◌-◌}
 use native.Mathlib.Omega.{arith}
 use lib.Dec.{leb}
 use borrow.Author.Rules.{rules}

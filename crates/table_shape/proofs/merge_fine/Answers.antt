@@ -1,6 +1,5 @@
 -- `merge_fine` by its two parts. Assumes nothing.
 use mathlib.Core.Path.{sym, ◌∙◌}
-use borrow.Author.Tests.{not-true, not-false}
 use Rattle.table_shape.proofs.merge_fine.Goals as goal
 
 pub returns-then-not-meets : goal.returns-then-not-meets

@@ -1,6 +1,6 @@
 -- `tally` counts each edge at both ends. The invariant: each cell counts the edges passed that hit it. Assumes nothing.
 use mathlib.Core.Path.{◌≡◌, ◌∙◌, ap, refl}
-use Prim.Native.Nat.{◌+◌, ◌*◌, ℕ, ◌-◌}
+use Prim.Native.Nat.{◌+◌, ◌*◌, ℕ}
 use native.Mathlib.Omega.{arith}
 use borrow.Author.Rules.{rules}
 use Rattle.paper.specs.Lists.{below, count}
