@@ -1,7 +1,6 @@
 -- `gain`: one edge after the other, until one is full. Assumes nothing.
 use Prim.Native.Nat.{ℕ, ◌<◌, ◌-◌, ◌+◌}
 use mathlib.Core.Path.{◌≡◌, sym, ap, subst, ◌∙◌}
-use mathlib.Core.Logic.{⊎_elim}
 use mathlib.Core.List.{List}
 use native.Mathlib.Omega.{arith}
 use lib.ListN.{length, length-set}
@@ -12,12 +11,14 @@ use Rattle.marking_give.specs.Giving.{fires_as}
 use Rattle.marking_give.proofs.GainLaws.{GainedTo, gained_begin, gained-full, gained-one, gained-none, gained-all, gained-not}
 use borrow.Author.Rules.{rules}
 use Rattle.marking_give.proofs.gain.Goals as goal
+use Rattle.marking_give.proofs.gain.Goals.{then-gains+else-tokens-j, else-gains}
 
 pub loop-j-init : goal.loop-j-init
 loop-j-init c = let a = c.args in (
   omega arith,
   search rules,
   λ held h small. gained_begin a.t.now (fires_as a.t.now a.firing) held a.tokens.now h small,
+  λ k. (c.type_inv.tokens k).fits,
 )
 
 pub gains-requires : goal.gains-requires
@@ -35,14 +36,11 @@ returns-then-tokens-j c = let a = c.args in
     let fires = fires_as a.t.now a.firing in
     let r = read-spans a.t.now c.requires.0 in
     λ held h.
-    let small : (k : ℕ) → at a.tokens.now k < 256 = λ k. (c.type_inv.tokens k).fits in
+    let small : (k : ℕ) → at a.tokens.now k < 256 = c.loop-j.invariant.3 in
     let n : s.j < edges a.t.now = omega (arith, r.edges-read, c.loop-j-test.true) in
     gained-not a.t.now fires held a.tokens.now h small s.tokens s.j n
     (gained-full a.t.now fires held a.tokens.now h small s.tokens s.j n (s.invariant.2 held h small) c.gains.ensures
     c.if-gains.true c.if-tokens-j.true)
-
-pub overflow_add-tokens : goal.overflow_add-tokens
-overflow_add-tokens c = omega (arith, (c.type_inv.tokens c.loop-j.j).fits)
 
 pub bounds-tokens-j-then-gains-2 : goal.bounds-tokens-j-then-gains-2
 bounds-tokens-j-then-gains-2 c = omega (arith, c.requires)
@@ -56,22 +54,25 @@ loop-j-preserved c = let a = c.args in
     let fires = fires_as a.t.now a.firing in
     let r = read-spans a.t.now c.requires.0 in
     let n : s.j < edges a.t.now = omega (arith, r.edges-read, c.loop-j-test.true) in
-    ⊎_elim (λ w. (
-      omega arith,
-      ap length w.4 ∙ length-set s.tokens s.j _ ∙ s.invariant.1,
-      λ held h small.
-          subst (λ (l : List ℕ). GainedTo a.t.now fires held a.tokens.now h small l (s.j + 1)) (sym w.4)
-          (gained-one a.t.now fires held a.tokens.now h small s.tokens s.j n (s.invariant.2 held h small) c.gains.ensures
-          (omega arith) w.0.taken w.2.left),
-    ))
-    (λ w. (
-      omega arith,
-      ap length w.1 ∙ s.invariant.1,
-      λ held h small.
-          subst (λ (l : List ℕ). GainedTo a.t.now fires held a.tokens.now h small l (s.j + 1)) (sym w.1)
-          (gained-none a.t.now fires held a.tokens.now h small s.tokens s.j n (s.invariant.2 held h small) c.gains.ensures w.0.left),
-    ))
-    c.if-gains.branch
+    elim c.if-gains.branch [
+      then-gains+else-tokens-j w ↦ (
+        omega arith,
+        ap length w.tokens-is ∙ length-set s.tokens s.j _ ∙ s.invariant.1,
+        λ held h small.
+            subst (λ (l : List ℕ). GainedTo a.t.now fires held a.tokens.now h small l (s.j + 1)) (sym w.tokens-is)
+            (gained-one a.t.now fires held a.tokens.now h small s.tokens s.j n (s.invariant.2 held h small) c.gains.ensures
+            (omega arith) w.if-gains.true w.if-tokens-j.false),
+        s.invariant.3
+      )
+    | else-gains w ↦ (
+        omega arith,
+        ap length w.tokens-is ∙ s.invariant.1,
+        λ held h small.
+            subst (λ (l : List ℕ). GainedTo a.t.now fires held a.tokens.now h small l (s.j + 1)) (sym w.tokens-is)
+            (gained-none a.t.now fires held a.tokens.now h small s.tokens s.j n (s.invariant.2 held h small) c.gains.ensures w.if-gains.false),
+        s.invariant.3
+      )
+    ]
 
 pub shape_of-tokens : goal.shape_of-tokens
 shape_of-tokens c = omega (arith, c.loop-j-test.false)
@@ -83,6 +84,6 @@ returns c = let a = c.args in
     let r = read-spans a.t.now c.requires.0 in
     let e : s.j ≡ edges a.t.now = omega arith in
     λ held h.
-    let small : (k : ℕ) → at a.tokens.now k < 256 = λ k. (c.type_inv.tokens k).fits in
+    let small : (k : ℕ) → at a.tokens.now k < 256 = c.loop-j.invariant.3 in
     gained-all a.t.now fires held a.tokens.now h small s.tokens
     (subst (λ (j : ℕ). GainedTo a.t.now fires held a.tokens.now h small s.tokens j) e (s.invariant.2 held h small))
