@@ -1,6 +1,6 @@
 -- The ladder of rows 1 to 4 under any limits: none of them moves more than the counts that row 1 asks for. Assumes nothing.
 use mathlib.Core.Path.{◌≡◌, sym, ap₂}
-use Prim.Native.Nat.{ℕ, ◌-◌, ◌<◌}
+use Prim.Native.Nat.{ℕ, ◌<◌}
 use native.Mathlib.Omega.{arith}
 use mathlib.Core.Bool.{Bool, true, false, not}
 use mathlib.Core.List.{List}

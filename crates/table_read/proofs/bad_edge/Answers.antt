@@ -1,10 +1,8 @@
 -- `bad_edge` finds the lowest edge that row 3 refuses. The invariant: every edge passed is fine. Assumes nothing.
 use mathlib.Core.Path.{◌≡◌, ◌∙◌, sym}
 use mathlib.Core.Bool.{true}
-use Prim.Native.Nat.{◌-◌}
 use native.Mathlib.Omega.{arith}
 use borrow.Author.Count.{below_more, below_none}
-use borrow.Author.Tests.{not-true, not-false}
 use borrow.Author.Rules.{rules}
 use Rattle.paper.specs.Table.{edges, edge_fine}
 use Rattle.table.proofs.Reading.{fails_at, fails_nowhere}

@@ -5,7 +5,7 @@ use mathlib.Core.List.{List}
 use Prim.Native.Nat.{ℕ, ◌≤◌, ◌<◌}
 use native.Mathlib.Omega.{arith}
 use lib.Dec.{eqb, leb, ltb}
-use borrow.Author.Tests.{not-true, not-false, le-leb, lt-leb, lt-ltb, le-ltb}
+use borrow.Author.Tests.{le-leb, lt-leb, lt-ltb, le-ltb}
 use Rattle.paper.specs.Table.{nodes, kind, edge_kind, source, target, guarded, may_leave, may_enter, edge_fine}
 use Rattle.table_read.proofs.edge_fine.Goals as goal
 
@@ -14,6 +14,7 @@ module _ (t : List ℕ) (j : ℕ) {k s m : ℕ} (ek : k ≡ edge_kind t j) (es :
   leave-bad : may_leave (eqb k 1) m ≡ false → false ≡ edge_fine t j
   unfolding edge_fine
   leave-bad h = rw (← ek, ← es) (rw (← em) (simp (h, and-false)))
+
   edge_by : {o g n : ℕ} {r : Bool} → o ≡ target t j → n ≡ kind t o → g ≡ guarded t j → k ≤ 1 → s < nodes t → o < nodes t → g ≤ 1
       → may_leave (eqb k 1) m ≡ true → r ≡ may_enter (eqb k 1) n → r ≡ edge_fine t j
   unfolding edge_fine

@@ -5,7 +5,7 @@ use Prim.Native.Nat.{◌+◌, ◌*◌}
 use native.Mathlib.Omega.{arith}
 use lib.Dec.{leb, eqb}
 use lib.ListN.{length}
-use borrow.Author.Tests.{not-true, not-false, le-leb, lt-leb, eq-eqb, ne_eqb}
+use borrow.Author.Tests.{le-leb, lt-leb, eq-eqb, ne_eqb}
 use Rattle.paper.specs.Lists.{at, within}
 use Rattle.paper.specs.Table.{version, nodes, edges, edge_at, frame_fine}
 use Rattle.table_read.proofs.frame_fine.Goals as goal

@@ -1,7 +1,7 @@
 -- `may_enter` goes by ranges of kinds; a law carries them to the paper's lists. Assumes nothing.
 use mathlib.Core.Path.{sym, ◌∙◌}
 use mathlib.Core.Bool.{or-false}
-use borrow.Author.Tests.{not-true, not-false, eq-eqb, ne_eqb}
+use borrow.Author.Tests.{eq-eqb, ne_eqb}
 use Rattle.paper.proofs.Shapes.{may-enter}
 use Rattle.table_read.proofs.may_enter.Goals as goal
 

@@ -4,7 +4,6 @@ use mathlib.Core.Bool.{Bool, true, false, ◌&&◌, cond, and-false}
 use mathlib.Core.List.{List}
 use Prim.Native.Nat.{ℕ}
 use lib.Dec.{eqb, leb, ltb}
-use borrow.Author.Tests.{not-true, not-false}
 use Rattle.paper.specs.Lists.{within}
 use Rattle.paper.specs.Limits.{limits}
 use Rattle.paper.specs.Table.{nodes, kind, owner, upper, lower, is_pin, is_action, is_object_node, is_input, node_fine}
@@ -15,9 +14,11 @@ module _ (t : List ℕ) (i : ℕ) {k : ℕ} (ek : k ≡ kind t i) where
   owner-bad : {o : ℕ} → o ≡ owner t i → cond (is_pin k) (ltb o (nodes t) && is_action (kind t o)) (eqb o 255) ≡ false → false ≡ node_fine t limits i
   unfolding node_fine
   owner-bad eo h = rw (← ek, ← eo) (simp (h, and-false))
+
   upper-bad : {u : ℕ} → u ≡ upper t i → cond (is_object_node k) (within 1 limits.most_upper u) (eqb u 0) ≡ false → false ≡ node_fine t limits i
   unfolding node_fine
   upper-bad eu h = rw (← ek, ← eu) (simp (h, and-false))
+
   node_by : {o u l : ℕ} {r : Bool} → o ≡ owner t i → u ≡ upper t i → l ≡ lower t i → within 1 13 k ≡ true → cond (is_pin k) (ltb o (nodes t) && is_action (kind t o)) (eqb o 255) ≡ true
       → cond (is_object_node k) (within 1 limits.most_upper u) (eqb u 0) ≡ true → r ≡ cond (is_input k) (leb l u) (eqb l 0) → r ≡ node_fine t limits i
   unfolding node_fine

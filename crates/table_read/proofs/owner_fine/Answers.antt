@@ -1,7 +1,7 @@
 -- `owner_fine` is the second part of row 2, by cases on the kind. Assumes nothing.
 use mathlib.Core.Path.{sym, ◌∙◌}
 use native.Mathlib.Omega.{arith}
-use borrow.Author.Tests.{not-true, not-false, le-ltb, lt-ltb}
+use borrow.Author.Tests.{le-ltb, lt-ltb}
 use Rattle.paper.specs.Table.{nodes}
 use Rattle.table_read.proofs.owner_fine.Goals as goal
 
