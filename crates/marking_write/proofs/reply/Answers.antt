@@ -39,5 +39,5 @@ write_edges-requires c = let p = c.requires in (
 
 pub returns : goal.returns
 returns c = let w = c.write_nodes-next.ensures in
-    λ m h f. full_is h c.args.out.now c.size-len.ensures.0 c.if-out-len.left w.0 f w.1 c.write_edges.ensures
+    λ m h f. full_is h c.args.out.now c.size-len.ensures.0 c.if-out-len.false w.0 f w.1 c.write_edges.ensures
     c.write_head.ensures c.pack-2.ensures

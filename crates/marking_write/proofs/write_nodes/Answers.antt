@@ -17,7 +17,7 @@ write_node-to-requires c =
       let a = c.args in nodes_held a.from.now a.kept.now a.place.now a.more.now a.runs.now in
     let a = c.args in
     let l = c.loop-i in
-    let h : l.i < nodes a.t.now = omega (arith, c.requires.0.nodes-read, c.loop-i-test.taken) in
+    let h : l.i < nodes a.t.now = omega (arith, c.requires.0.nodes-read, c.loop-i-test.true) in
     let k = c.kind.ensures.0 in
     let e = size_same a.t.now a.kept.now a.more.now l.i k refl refl refl in (
       node-inside a.t.now a.old.now a.extra.now (held) c.requires.2 l.i h k,
@@ -31,10 +31,10 @@ loop-i-preserved c =
     let a = c.args in
     let l = c.loop-i in
     let w = c.write_node-to in
-    let h : l.i < nodes a.t.now = omega (arith, c.requires.0.nodes-read, c.loop-i-test.taken) in
+    let h : l.i < nodes a.t.now = omega (arith, c.requires.0.nodes-read, c.loop-i-test.true) in
     let k = c.kind.ensures.0 in
     let e = size_same a.t.now a.kept.now a.more.now l.i k refl refl refl in (
-      omega (arith, c.loop-i-test.taken),
+      omega (arith, c.loop-i-test.true),
       omega (arith, e, w.ensures.0, l.invariant.1, total-more (node_size a.t.now a.kept.now a.more.now) l.i),
       omega (arith, w.auto, l.invariant.2),
       node-run a.t.now a.old.now a.extra.now (held) c.requires.2 l.i h k a.out.now l.invariant.1 l.invariant.3 w.ensures.1,

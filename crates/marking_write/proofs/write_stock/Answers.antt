@@ -16,12 +16,12 @@ pub copy-requires-2 : goal.copy-requires-2
 copy-requires-2 c = let w = c.wide-kept.ensures.0 in
     let m = c.wide-more.ensures.0 in (
       omega (arith, c.requires.0.in_extra, c.place_of-2.ensures.0, m),
-      omega (arith, c.requires.1, m, w, c.copy.auto.1.1.1.0 ∙ length-set c.args.out.now c.args.to (c.args.node.kept + c.args.node.more)),
+      omega (arith, c.requires.1, m, w, c.copy.auto.out ∙ length-set c.args.out.now c.args.to (c.args.node.kept + c.args.node.more)),
     )
 
 pub shape_of-out : goal.shape_of-out
 shape_of-out c = let a = c.args in
-    c.copy-2.auto.1.1.1.0 ∙ c.copy.kept.1.1.1.0 ∙ length-set a.out.now a.to (a.node.kept + a.node.more)
+    c.copy-2.auto.out ∙ c.copy.auto.out ∙ length-set a.out.now a.to (a.node.kept + a.node.more)
 
 pub returns : goal.returns
 returns c = let a = c.args in
