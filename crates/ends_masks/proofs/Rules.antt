@@ -9,10 +9,7 @@ use lib.Dec.{eqb, leb}
 use lib.ListN.{length}
 use borrow.Author.Tests.{eq-eqb, eqb-true}
 use Rattle.paper.specs.Lists.{at, has, below, all, any, count, keep, lowest, one_if, within, ◌⇒◌}
-use Rattle.paper.specs.Limits.{limits}
-use Rattle.paper.specs.Answers.{good}
-use Rattle.paper.specs.Table.{nodes, kind, owner, lower, upper, into, inputs, is_action, is_pin, is_fork, is_buffer, is_outgoing, is_object_node, table_fine}
-use Rattle.paper.specs.Marking.{Marking}
+use Rattle.paper.specs.Table.{nodes, kind, owner, lower, upper, into, inputs, is_action, is_pin, is_fork, is_buffer, is_outgoing, is_object_node}
 use Rattle.paper.specs.Offers.{Offer, last_edge, makers, origins, elem, compete, made_at, target_of, belongs}
 use Rattle.paper.specs.Choices.{Board, how_many, end, taken, taken_ends, arrivals, taken_makers, rule1, passed_whole, rule2, action_agrees, agrees, rule3}
 use Rattle.paper.proofs.Bools.{and-true, and_both, or-true, if_true, iff}

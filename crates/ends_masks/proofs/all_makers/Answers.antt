@@ -1,6 +1,6 @@
 -- `ends_masks::all_makers` meets its contract: the word has the makers of the taken ends below k. Assumes nothing.
 use mathlib.Core.Path.{◌≡◌, ap, ◌∙◌}
-use Prim.Native.Nat.{ℕ, ◌-◌}
+use Prim.Native.Nat.{ℕ}
 use native.Mathlib.Omega.{arith}
 use borrow.Author.Rules.{rules}
 use Rattle.ends_masks.specs.Seating.{makes}

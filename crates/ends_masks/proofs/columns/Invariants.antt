@@ -2,7 +2,6 @@
 use mathlib.Core.Path.{◌≡◌}
 use Prim.Native.Nat.{◌≤◌, ◌-◌}
 use lib.ListN.{length}
-use Rattle.paper.specs.Table.{target}
 use Rattle.ends_masks.specs.Seating.{Columns}
 use Rattle.ends_masks.proofs.columns.Given as goal
 

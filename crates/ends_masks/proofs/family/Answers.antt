@@ -1,5 +1,4 @@
 -- `ends_masks::family` meets its contract: the word marks the siblings below y. Assumes nothing.
-use Prim.Native.Nat.{◌-◌}
 use native.Mathlib.Omega.{arith}
 use borrow.Author.Rules.{rules}
 use Rattle.offers.proofs.Sets.{marks_nil}

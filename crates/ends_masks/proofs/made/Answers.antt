@@ -1,5 +1,4 @@
 use mathlib.Core.Path.{refl}
-use Prim.Native.Nat.{◌-◌}
 use native.Mathlib.Omega.{arith}
 use Rattle.offers.proofs.Sets.{marks_nil}
 use Rattle.ends_masks.proofs.Masks.{marks_fit, marks-all}

@@ -1,5 +1,4 @@
 -- `ends_masks::rivals` meets its contract: the word marks the rivals below j. Assumes nothing.
-use Prim.Native.Nat.{◌-◌}
 use native.Mathlib.Omega.{arith}
 use borrow.Author.Rules.{rules}
 use Rattle.offers.proofs.Sets.{marks_nil}
