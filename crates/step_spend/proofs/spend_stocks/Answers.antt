@@ -13,40 +13,25 @@ pub loop-i-init : goal.loop-i-init
 loop-i-init c = let a = c.args in (omega arith, oldest-none (is_marked c.losing_nodes-losing.result) a.from.now a.kept.now)
 
 pub bounds-kept-i : goal.bounds-kept-i
-bounds-kept-i c =
-    let in_kept : c.loop-i.i < length c.loop-i.auto =
-      omega (arith, c.loop-i.invariant.1.kepts.long, c.requires.3, c.loop-i-test.true) in
-    in_kept
+bounds-kept-i c = omega (arith, c.loop-i.invariant.1.kepts.long, c.requires.3, c.loop-i-test.true)
 
 pub bounds-from-i : goal.bounds-from-i
-bounds-from-i c =
-    let in_from : c.loop-i.i < length c.loop-i.from =
-      omega (arith, c.loop-i.invariant.1.froms.long, c.requires.2, c.loop-i-test.true) in
-    in_from
+bounds-from-i c = omega (arith, c.loop-i.invariant.1.froms.long, c.requires.2, c.loop-i-test.true)
 
 pub bounds-from-i-in-loop-i : goal.bounds-from-i-in-loop-i
-bounds-from-i-in-loop-i c =
-    let in_from : c.loop-i.i < length c.loop-i.from =
-      omega (arith, c.loop-i.invariant.1.froms.long, c.requires.2, c.loop-i-test.true) in
-    in_from
+bounds-from-i-in-loop-i c = omega (arith, c.loop-i.invariant.1.froms.long, c.requires.2, c.loop-i-test.true)
 
 pub bounds-kept-i-in-loop-i : goal.bounds-kept-i-in-loop-i
-bounds-kept-i-in-loop-i c =
-    let in_kept : c.loop-i.i < length c.loop-i.auto =
-      omega (arith, c.loop-i.invariant.1.kepts.long, c.requires.3, c.loop-i-test.true) in
-    in_kept
+bounds-kept-i-in-loop-i c = omega (arith, c.loop-i.invariant.1.kepts.long, c.requires.3, c.loop-i-test.true)
 
 pub bounds-kept-i-in-loop-i-2 : goal.bounds-kept-i-in-loop-i-2
-bounds-kept-i-in-loop-i-2 c =
-    let in_kept : c.loop-i.i < length c.loop-i.auto =
-      omega (arith, c.loop-i.invariant.1.kepts.long, c.requires.3, c.loop-i-test.true) in
-    in_kept
+bounds-kept-i-in-loop-i-2 c = omega (arith, c.loop-i.invariant.1.kepts.long, c.requires.3, c.loop-i-test.true)
 
 pub loop-i-preserved : goal.loop-i-preserved
 loop-i-preserved c =
     let in_from : c.loop-i.i < length c.loop-i.from =
       omega (arith, c.loop-i.invariant.1.froms.long, c.requires.2, c.loop-i-test.true) in
-    let in_kept : c.loop-i.i < length c.loop-i.auto =
+    let in_kept : c.loop-i.i < length c.loop-i.kept =
       omega (arith, c.loop-i.invariant.1.kepts.long, c.requires.3, c.loop-i-test.true) in
     (
       omega arith,

@@ -11,7 +11,7 @@ use Rattle.step_spend.proofs.spent_edges.Given as goal
 
 abbrev pub invariant-loop-y : goal.invariant-loop-y
 invariant-loop-y l =
-    (l.y ≤ l.rows) × (length l.spent ≡ limits.most_edges) × MarksOf (placed (λ l.y. has l.w l.y && eqb (at l.parents l.y) 0) (at l.last) l.y) limits.most_edges l.spent
+    (l.y ≤ l.rows) × (length l.spent ≡ limits.most_edges) × MarksOf (placed (λ y. has l.w y && eqb (at l.parents y) 0) (at l.last) l.y) limits.most_edges l.spent
 
 abbrev pub decreases-loop-y : goal.decreases-loop-y
 decreases-loop-y l = l.rows - l.y
