@@ -1,5 +1,5 @@
 -- `conclude`: the action is idle, and its outputs are delivered. Assumes nothing.
-use mathlib.Core.List.{List}
+use mathlib.Core.List.{List, []}
 use Prim.Native.Nat.{ℕ}
 use native.Mathlib.Omega.{arith}
 use Rattle.paper.specs.Operations.{idled as idledOf}
@@ -20,7 +20,7 @@ deliver-requires c =
     let b : List ℕ =
       c.args.b.now in
     let idled : Held =
-      held_of c.args.from.now c.idle.new.1.1.1.0 c.args.tokens.now in
+      held_of c.args.from.now c.idle.new.kept c.args.tokens.now in
     let is-bytes : Bytes b =
       λ k. (c.type_inv.b k).fits in
     let held : (l : LiveMarking t b (held_of c.args.from.now c.args.kept.now c.args.tokens.now)) → MarkingHeld t (idledOf t c.args.a l.current) b [] idled =
@@ -39,7 +39,7 @@ returns c =
     let b : List ℕ =
       c.args.b.now in
     let idled : Held =
-      held_of c.args.from.now c.idle.new.1.1.1.0 c.args.tokens.now in
+      held_of c.args.from.now c.idle.new.kept c.args.tokens.now in
     let is-bytes : Bytes b =
       λ k. (c.type_inv.b k).fits in
     let held : (l : LiveMarking t b (held_of c.args.from.now c.args.kept.now c.args.tokens.now)) → MarkingHeld t (idledOf t c.args.a l.current) b [] idled =
@@ -47,4 +47,4 @@ returns c =
     let d = c.deliver in
     let a = c.args in
     λ l. finish-reply (t) (b) l (is-bytes) a.a (idled) (held l) a.values.now d.result a.out.now
-    d.new.1.1.1.1.1.1.1.1.1.0 d.ensures
+    d.new.out d.ensures

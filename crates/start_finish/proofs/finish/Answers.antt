@@ -18,20 +18,20 @@ read-requires c = let t = c.args.t.now in
 
 pub returns-in-Ended : goal.returns-in-Ended
 returns-in-Ended c = let a = c.args in
-    let w = c.read.new.1.1.1 in
+    let w = c.read.new in
     record {
       answer = _;
-      allowed = sym (finish_6 a.t.now a.b.now a.action a.values.now c.requires w.0 w.1.0 w.1.1.0 c.read.result
+      allowed = sym (finish_6 a.t.now a.b.now a.action a.values.now c.requires w.from w.kept w.tokens c.read.result
           c.read.ensures c.in-Ended.is);
       reply = (c.pack.ensures, refl);
     }
 
 pub returns-in-Refused : goal.returns-in-Refused
 returns-in-Refused c = let a = c.args in
-    let w = c.read.new.1.1.1 in
+    let w = c.read.new in
     record {
       answer = _;
-      allowed = sym (finish_5 a.t.now a.b.now a.action a.values.now c.requires w.0 w.1.0 w.1.1.0 c.read.result
+      allowed = sym (finish_5 a.t.now a.b.now a.action a.values.now c.requires w.from w.kept w.tokens c.read.result
           c.read.ensures _ _ c.in-Refused.is);
       reply = (c.pack-in-Refused.ensures, refl);
     }
@@ -39,32 +39,32 @@ returns-in-Refused c = let a = c.args in
 pub running-requires : goal.running-requires
 running-requires c =
     let held : Held =
-      let w = c.read.last.1.1.1 in held_of w.0 w.1.0 w.1.1.0 in
+      let w = c.read.new in held_of w.from w.kept w.tokens in
     let IsLive : Type 0 =
       LiveMarking c.args.t.now c.args.b.now held in
     let marking-held : IsLive =
       let t = c.args.t.now in
       let b = c.args.b.now in
       let r = c.read in
-      let w = r.last.1.1.1 in
-      let n = lengths_up w.0 w.1.0 w.1.1.0 (omega (arith, r.kept)) (omega (arith, r.kept)) (omega (arith, r.kept)) in
-      live_up t b w.0 w.1.0 w.1.1.0 r.result r.ensures (read-good t c.requires) n c.in-Live.is in
+      let w = r.new in
+      let n = lengths_up w.from w.kept w.tokens (omega (arith, r.auto)) (omega (arith, r.auto)) (omega (arith, r.auto)) in
+      live_up t b w.from w.kept w.tokens r.result r.ensures (read-good t c.requires) n c.in-Live.is in
     (read-spans c.args.t.now c.requires, omega (arith, nodes_most c.args.t.now c.requires, (marking-held).lengths.kept-long))
 
 pub returns-in-Refused-running : goal.returns-in-Refused-running
 returns-in-Refused-running c =
     let held : Held =
-      let w = c.read.last.1.1.1 in held_of w.0 w.1.0 w.1.1.0 in
+      let w = c.read.new in held_of w.from w.kept w.tokens in
     let IsLive : Type 0 =
       LiveMarking c.args.t.now c.args.b.now held in
     let marking-held : IsLive =
       let t = c.args.t.now in
       let b = c.args.b.now in
       let r = c.read in
-      let w = r.last.1.1.1 in
-      let n = lengths_up w.0 w.1.0 w.1.1.0 (omega (arith, r.kept)) (omega (arith, r.kept)) (omega (arith, r.kept)) in
-      live_up t b w.0 w.1.0 w.1.1.0 r.result r.ensures (read-good t c.requires) n c.in-Live.is in
-    let answered : said c.running.result ≡ need 14 (runs_in c.args.t.now l.current c.wide-a.result) =
+      let w = r.new in
+      let n = lengths_up w.from w.kept w.tokens (omega (arith, r.auto)) (omega (arith, r.auto)) (omega (arith, r.auto)) in
+      live_up t b w.from w.kept w.tokens r.result r.ensures (read-good t c.requires) n c.in-Live.is in
+    let answered : (l : IsLive) → said c.running.result ≡ need 14 (runs_in c.args.t.now l.current c.wide-a.result) =
       λ l. c.running.ensures l.current l.held.running in
     let a = c.args in
     let l = marking-held in
@@ -78,17 +78,17 @@ returns-in-Refused-running c =
 pub conclude-requires : goal.conclude-requires
 conclude-requires c =
     let held : Held =
-      let w = c.read.last.1.1.1 in held_of w.0 w.1.0 w.1.1.0 in
+      let w = c.read.new in held_of w.from w.kept w.tokens in
     let IsLive : Type 0 =
       LiveMarking c.args.t.now c.args.b.now held in
     let marking-held : IsLive =
       let t = c.args.t.now in
       let b = c.args.b.now in
       let r = c.read in
-      let w = r.last.1.1.1 in
-      let n = lengths_up w.0 w.1.0 w.1.1.0 (omega (arith, r.kept)) (omega (arith, r.kept)) (omega (arith, r.kept)) in
-      live_up t b w.0 w.1.0 w.1.1.0 r.result r.ensures (read-good t c.requires) n c.in-Live.is in
-    let answered : said c.running.result ≡ need 14 (runs_in c.args.t.now l.current c.wide-a.result) =
+      let w = r.new in
+      let n = lengths_up w.from w.kept w.tokens (omega (arith, r.auto)) (omega (arith, r.auto)) (omega (arith, r.auto)) in
+      live_up t b w.from w.kept w.tokens r.result r.ensures (read-good t c.requires) n c.in-Live.is in
+    let answered : (l : IsLive) → said c.running.result ≡ need 14 (runs_in c.args.t.now l.current c.wide-a.result) =
       λ l. c.running.ensures l.current l.held.running in
     let runs : (l : IsLive) → runs_in c.args.t.now l.current c.wide-a.result ≡ true =
       λ l. need-passed 14 (runs_in c.args.t.now l.current c.wide-a.result) (sym (ap said c.in_default.is) ∙ answered l) in
@@ -100,17 +100,17 @@ conclude-requires c =
 pub returns : goal.returns
 returns c =
     let held : Held =
-      let w = c.read.last.1.1.1 in held_of w.0 w.1.0 w.1.1.0 in
+      let w = c.read.new in held_of w.from w.kept w.tokens in
     let IsLive : Type 0 =
       LiveMarking c.args.t.now c.args.b.now held in
     let marking-held : IsLive =
       let t = c.args.t.now in
       let b = c.args.b.now in
       let r = c.read in
-      let w = r.last.1.1.1 in
-      let n = lengths_up w.0 w.1.0 w.1.1.0 (omega (arith, r.kept)) (omega (arith, r.kept)) (omega (arith, r.kept)) in
-      live_up t b w.0 w.1.0 w.1.1.0 r.result r.ensures (read-good t c.requires) n c.in-Live.is in
-    let answered : said c.running.result ≡ need 14 (runs_in c.args.t.now l.current c.wide-a.result) =
+      let w = r.new in
+      let n = lengths_up w.from w.kept w.tokens (omega (arith, r.auto)) (omega (arith, r.auto)) (omega (arith, r.auto)) in
+      live_up t b w.from w.kept w.tokens r.result r.ensures (read-good t c.requires) n c.in-Live.is in
+    let answered : (l : IsLive) → said c.running.result ≡ need 14 (runs_in c.args.t.now l.current c.wide-a.result) =
       λ l. c.running.ensures l.current l.held.running in
     let runs : (l : IsLive) → runs_in c.args.t.now l.current c.wide-a.result ≡ true =
       λ l. need-passed 14 (runs_in c.args.t.now l.current c.wide-a.result) (sym (ap said c.in_default.is) ∙ answered l) in
@@ -118,4 +118,4 @@ returns c =
     let l = marking-held in
     let d = c.conclude in
     finish-leaves a.t.now a.b.now a.action a.values.now c.requires l c.wide-a.ensures.0 (runs l) d.result a.out.now
-    d.new.1.1.1.1.1.1.1.1.0 (d.ensures l)
+    d.new.out (d.ensures l)
