@@ -1,6 +1,5 @@
 -- `admit`: a group grows by a common rival. Assumes nothing.
 use mathlib.Core.Path.{sym, ◌∙◌}
-use borrow.Author.Tests.{not-true, not-false}
 use borrow.Author.Rules.{rules}
 use Rattle.pick_demands.proofs.Crowding.{huddled_more, common_less, apart_stays}
 use Rattle.pick_demands.proofs.admit.Goals as goal

@@ -1,6 +1,6 @@
 -- `asked_of`: the invariant says that what is summed is asked for, and of these ends. Assumes nothing.
 use mathlib.Core.Bool.{Bool}
-use Prim.Native.Nat.{ℕ, ◌-◌, ◌≤◌}
+use Prim.Native.Nat.{ℕ, ◌≤◌}
 use Rattle.pick_bounds.specs.declared.Bounds.{Bounds}
 use Rattle.pick_bounds.specs.Bounds.{Part}
 use Rattle.pick_demands.specs.Demands.{Asks, DemandsListed}

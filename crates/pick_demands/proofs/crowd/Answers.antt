@@ -1,6 +1,5 @@
 -- `crowd`: the invariant says that all but `most` of the ends of a set that passes are left. Assumes nothing.
 use mathlib.Core.Path.{◌≡◌}
-use Prim.Native.Nat.{◌-◌}
 use native.Mathlib.Omega.{arith}
 use borrow.Author.Rules.{rules}
 use Rattle.pick_bounds.specs.Bounds.{good}

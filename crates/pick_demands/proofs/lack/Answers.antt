@@ -1,5 +1,4 @@
 -- `lack`: a rule that is set off asks for what it lacks. Assumes nothing.
-use borrow.Author.Tests.{not-false}
 use Rattle.pick_demands.proofs.Demands.{asks-set_off}
 use Rattle.pick_demands.proofs.lack.Goals as goal
 

@@ -1,5 +1,4 @@
 -- `lack_roused`: a rule that the list sets off asks for what it lacks. Assumes nothing.
-use borrow.Author.Tests.{not-false}
 use Rattle.pick_demands.proofs.Demands.{asks_roused}
 use Rattle.pick_demands.proofs.lack_roused.Goals as goal
 

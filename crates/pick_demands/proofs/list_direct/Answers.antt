@@ -1,5 +1,4 @@
 -- `list_direct`: the invariant says that what is listed is asked for. Assumes nothing.
-use Prim.Native.Nat.{◌-◌}
 use native.Mathlib.Omega.{arith}
 use lib.Bits.{bit_and}
 use borrow.Author.Rules.{rules}

@@ -1,7 +1,6 @@
 -- `rouses`: one demand is enough. Assumes nothing.
 use mathlib.Core.Path.{refl}
 use mathlib.Core.Bool.{false}
-use Prim.Native.Nat.{◌-◌}
 use native.Mathlib.Omega.{arith}
 use Rattle.paper.proofs.Bools.{never}
 use Rattle.pick_demands.proofs.Demands.{rouses_one}
