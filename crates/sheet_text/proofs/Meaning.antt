@@ -1,5 +1,5 @@
 -- The text that a sheet's bytes have is the text of its board: what is behind each place are the bytes of the ends that are left. Assumes nothing.
-use mathlib.Core.Path.{◌≡◌, refl, sym, ap, ◌∙◌}
+use mathlib.Core.Path.{◌≡◌, refl, sym, ap, subst, ◌∙◌}
 use Prim.Native.Nat.{ℕ, suc, ◌+◌, ◌≤◌, compare}
 use native.Mathlib.Omega.{arith}
 use native.Mathlib.Nat.{add-zero}
@@ -71,14 +71,14 @@ module _ {s : List ℕ} where
   paths-over : {p : ℕ} (qs : List (List ℕ)) (rest : List ℕ) → Rest s p (gather path_bytes qs ++ rest) → Rest s (paths_over s p (length qs)) rest
   unfolding paths_over
   paths-over [] rest r = r
-  paths-over (q ∷ qs) rest r = paths-over qs rest (path-over q (gather path_bytes qs ++ rest) (rw append_assoc at r))
+  paths-over {p = p} (q ∷ qs) rest r = paths-over {p = path_over s p} qs rest (path-over q (gather path_bytes qs ++ rest) (rw append_assoc at r))
 
   paths_here : {p : ℕ} (qs : List (List ℕ)) (rest : List ℕ) → Rest s p (gather path_bytes qs ++ rest) → paths_printed s p (length qs) ≡ gather (λ q. 32 ∷ commas q) qs
   unfolding paths_printed
   paths_here [] rest r = refl
-  paths_here (q ∷ qs) rest r =
+  paths_here {p = p} (q ∷ qs) rest r =
       let z = rw append_assoc at r in
-      rw (path_here q (gather path_bytes qs ++ rest) z, paths_here qs rest (path-over q (gather path_bytes qs ++ rest) z))
+      rw (path_here q (gather path_bytes qs ++ rest) z, paths_here {p = path_over s p} qs rest (path-over q (gather path_bytes qs ++ rest) z))
 
   -- ---- what stands before the paths of an end
   value_here : {p : ℕ} (v : Option ℕ) (rest : List ℕ) → Small v → Rest s p (value_bytes v ++ rest) → value_printed s p ≡ 32 ∷ value_text v
@@ -144,29 +144,33 @@ lines_of t k (o ∷ es) = line_of t k o ++ lines_of t (suc k) es
 ends-inside : {s : List ℕ} {p : ℕ} (es : List Offer) → Rest s p (gather end_bytes es) → ends_over s p (length es) ≤ length s
 unfolding ends_over
 ends-inside [] r = r.inside
-ends-inside (o ∷ es) r = ends-inside es (end-over o (gather end_bytes es) r)
+ends-inside {s = s} {p = p} (o ∷ es) r = ends-inside {s = s} {p = end_over s p} es (end-over o (gather end_bytes es) r)
 
 module _ {t s : List ℕ} where
   ends_here : {p : ℕ} (k : ℕ) (es : List Offer) → ((o : Offer) → In o es → EndFacts t o) → Rest s p (gather end_bytes es) → ends_printed t s p k (length es) ≡ lines_of t k es
   unfolding ends_printed lines_of
   ends_here k [] f r = refl
-  ends_here k (o ∷ es) f r =
-      rw (end_here o (gather end_bytes es) r t k (f o (here refl)).small, ends_here (suc k) es (λ x i. f x (later i)) (end-over o (gather end_bytes es) r))
+  ends_here {p = p} k (o ∷ es) f r =
+      rw (end_here o (gather end_bytes es) r t k (f o (here refl)).small, ends_here {p = end_over s p} (suc k) es (λ x i. f x (later i)) (end-over o (gather end_bytes es) r))
 
   ends_fit : {p : ℕ} (es : List Offer) → ((o : Offer) → In o es → EndFacts t o) → Rest s p (gather end_bytes es) → EndsFit t s p (length es)
   unfolding EndsFit
   ends_fit [] f r = tt
-  ends_fit (o ∷ es) f r =
-      (rw (edge_here o (gather end_bytes es) r) (f o (here refl)).edge, ends_fit es (λ x i. f x (later i)) (end-over o (gather end_bytes es) r))
+  ends_fit {p = p} (o ∷ es) f r =
+      (rw (edge_here o (gather end_bytes es) r) (f o (here refl)).edge, ends_fit {p = end_over s p} es (λ x i. f x (later i)) (end-over o (gather end_bytes es) r))
 
 -- by their numbers
+line_as : (d : Board) (k : ℕ) (o : Offer) → end d k ≡ o → line_of d.table k o ≡ end_line d k
+unfolding line_of end_line
+line_as d k o e = subst (λ (x : Offer). line_of d.table k x ≡ end_line d k) e refl
+
 numbered : (d : Board) (k : ℕ) (es : List Offer) → drop k d.all_ends ≡ es → lines_of d.table k es ≡ gather (end_line d) (from k (length es))
-unfolding lines_of line_of end_line
+unfolding lines_of
 numbered d k [] h = refl
 numbered d k (o ∷ es) h =
     let e : end d k ≡ o = rw (add-zero k) at (sym (get_or-drop k d.all_ends 0 (first 0 none)) ∙ ap (λ (l : List Offer). get_or l 0 (first 0 none)) h) in
     let g : drop (suc k) d.all_ends ≡ es = rw (add-one k) at (sym (drop-drop 1 k d.all_ends) ∙ ap (drop 1) h) in
-    rw (e, numbered d (suc k) es g)
+    rw (line_as d k o e, numbered d (suc k) es g)
 
 lines_are : (d : Board) (t : List ℕ) → d.table ≡ t → lines_of t 0 d.all_ends ≡ gather (end_line d) (below (how_many d))
 lines_are d t h = rw (← h) (numbered d 0 d.all_ends refl)

@@ -19,14 +19,14 @@ put_ends-b-requires c = let w = c.wide-n in
     let r = sheet_reads c.requires.0 w.result w.ensures.0 in
     let k = c.counts.ensures in
     let h = c.put_count-a in
-    (spans_as r.spans k.0 k.1, r.fit, r.inside, w.ensures.1, omega (arith, r.inside, c.requires.1, h.ensures.1, h.auto))
+    (spans_as r.spans k.0 k.1, r.fit, r.inside, w.ensures.1, omega (arith, r.inside, c.requires.1, h.ensures.1, h.auto.out))
 
 pub put_pick-requires : goal.put_pick-requires
 put_pick-requires c = let w = c.wide-n in
     let r = sheet_reads c.requires.0 w.result w.ensures.0 in
     let h = c.put_count-a in
     let e = c.put_ends-b in
-    omega (arith, r.inside, c.requires.1, h.ensures.1, h.kept, e.ensures.1, e.auto)
+    omega (arith, r.inside, c.requires.1, h.ensures.1, h.auto.out, e.ensures.1, e.auto.out)
 
 pub returns : goal.returns
 returns c = λ x. let a = c.args in

@@ -1,5 +1,5 @@
 -- `put_count`: three pieces, one behind another. Assumes nothing.
-use native.Mathlib.Omega.{arith}
+use Rattle.std.proofs.Common.{rules, arith, length, ◌<◌}
 use Rattle.sheet_numbers.proofs.Writing.{wrote_as, wrote_long, wrote_then, wrote_more}
 use Rattle.sheet_numbers.proofs.Decimals.{byte-short}
 use Rattle.sheet_text.proofs.Showing.{count-is}
@@ -16,9 +16,6 @@ bounds-out-b c = let p = c.requires in
     let y = c.put_parted-b in
     omega (arith, p, x.ensures.place, x.auto, y.ensures.place, y.auto, byte-short c.args.n p.0)
 
-pub overflow_add-result : goal.overflow_add-result
-overflow_add-result c = omega (arith, slice-write-out c)
-
 pub shape_of-out : goal.shape_of-out
 shape_of-out c = wrote_long {d = c.args.out.now} (wrote_more (wrote_then c.put-a.ensures c.put_parted-b.ensures) 10)
 
@@ -27,3 +24,6 @@ returns c = let p = c.requires in
     let x = c.put-a.ensures in
     let y = c.put_parted-b.ensures in
     (wrote_as (wrote_more (wrote_then x y) 10) (count-is c.args.n), omega (arith, x.place, y.place, byte-short c.args.n p.0))
+
+pub overflow_add-result : goal.overflow_add-result
+overflow_add-result c = let h : c.put_parted-b.result < length c.put_parted-b.new.out = bounds-out-b c in search rules

@@ -13,21 +13,6 @@ put_parted-b-requires c = let w = c.wide-edge in
     let x = c.put_decimal-a in
     omega (arith, c.requires, byte-short c.args.k c.requires.3, byte-short w.result w.ensures.1, x.ensures.place, x.auto)
 
-pub put_parted-e-requires : goal.put_parted-e-requires
-put_parted-e-requires c = let w = c.wide-edge in
-    let x = c.put_decimal-a in
-    let y = c.put_parted-b in
-    let g = c.target in
-    omega (arith, c.requires, byte-short c.args.k c.requires.3, byte-short w.result w.ensures.1, byte-short g.result g.ensures.1, x.ensures.place, x.kept, y.ensures.place, y.auto)
-
-pub put_value-requires : goal.put_value-requires
-put_value-requires c = let w = c.wide-edge in
-    let x = c.put_decimal-a in
-    let y = c.put_parted-b in
-    let z = c.put_parted-e in
-    let g = c.target in
-    (omega (arith, c.requires), omega (arith, c.requires, byte-short c.args.k c.requires.3, byte-short w.result w.ensures.1, byte-short g.result g.ensures.1, x.ensures.place, x.kept, y.ensures.place, y.kept, z.ensures.place, z.auto))
-
 pub shape_of-out : goal.shape_of-out
 shape_of-out c = wrote_long {d = c.args.out.now} (wrote_then (wrote_then (wrote_then c.put_decimal-a.ensures c.put_parted-b.ensures) c.put_parted-e.ensures) c.put_value.ensures.0)
 
@@ -42,3 +27,18 @@ returns c = let a = c.args in
       wrote_as (wrote_then (wrote_then (wrote_then x y) z) v.0) (head-is a.t.now a.s.now a.p a.k w.result g.result w.ensures.0 g.ensures.0),
       omega (arith, byte-short a.k c.requires.3, byte-short w.result w.ensures.1, byte-short g.result g.ensures.1, x.place, y.place, z.place, v.1),
     )
+
+pub put_parted-e-requires : goal.put_parted-e-requires
+put_parted-e-requires c = let w = c.wide-edge in
+    let x = c.put_decimal-a in
+    let y = c.put_parted-b in
+    let g = c.target in
+    omega (arith, c.requires, byte-short c.args.k c.requires.3, byte-short w.result w.ensures.1, byte-short g.result g.ensures.1, x.ensures.place, x.auto.out, y.ensures.place, y.auto.out)
+
+pub put_value-requires : goal.put_value-requires
+put_value-requires c = let w = c.wide-edge in
+    let x = c.put_decimal-a in
+    let y = c.put_parted-b in
+    let z = c.put_parted-e in
+    let g = c.target in
+    (omega (arith, c.requires), omega (arith, c.requires, byte-short c.args.k c.requires.3, byte-short w.result w.ensures.1, byte-short g.result g.ensures.1, x.ensures.place, x.auto.out, y.ensures.place, y.auto.out, z.ensures.place, z.auto.out))

@@ -1,5 +1,5 @@
 -- `refusal_text`: four pieces, one behind another. Assumes nothing.
-use native.Mathlib.Omega.{arith}
+use Rattle.std.proofs.Common.{rules, arith, length, ◌<◌}
 use Rattle.sheet_numbers.proofs.Writing.{wrote_as, wrote_long, wrote_then, wrote_more, printed}
 use Rattle.sheet_numbers.proofs.Decimals.{decimal-short}
 use Rattle.sheet_text.proofs.Showing.{refusal_is}
@@ -15,16 +15,6 @@ put_parted-e-requires c = let a = c.args in
     let y = c.put_parted-b in
     omega (arith, c.requires, x.ensures.place, x.auto, y.ensures.place, y.auto, decimal-short a.number, decimal-short a.place)
 
-pub bounds-out-e : goal.bounds-out-e
-bounds-out-e c = let a = c.args in
-    let x = c.put-a in
-    let y = c.put_parted-b in
-    let z = c.put_parted-e in
-    omega (arith, c.requires, x.ensures.place, x.kept, y.ensures.place, y.auto, z.ensures.place, z.auto, decimal-short a.number, decimal-short a.place)
-
-pub overflow_add-result : goal.overflow_add-result
-overflow_add-result c = omega (arith, slice-write-out c)
-
 pub shape_of-out : goal.shape_of-out
 shape_of-out c = wrote_long {d = c.args.out.now} (wrote_more (wrote_then (wrote_then c.put-a.ensures c.put_parted-b.ensures) c.put_parted-e.ensures) 10)
 
@@ -34,3 +24,13 @@ returns c = let a = c.args in
     let y = c.put_parted-b.ensures in
     let z = c.put_parted-e.ensures in
     printed (wrote_as (wrote_more (wrote_then (wrote_then x y) z) 10) (refusal_is a.number a.place)) (omega (arith, c.requires, x.place, y.place, z.place, decimal-short a.number, decimal-short a.place))
+
+pub bounds-out-e : goal.bounds-out-e
+bounds-out-e c = let a = c.args in
+    let x = c.put-a in
+    let y = c.put_parted-b in
+    let z = c.put_parted-e in
+    omega (arith, c.requires, x.ensures.place, x.auto.out, y.ensures.place, y.auto.out, z.ensures.place, z.auto.out, decimal-short a.number, decimal-short a.place)
+
+pub overflow_add-result : goal.overflow_add-result
+overflow_add-result c = let h : c.put_parted-e.result < length c.put_parted-e.new.out = bounds-out-e c in search rules
