@@ -60,8 +60,11 @@ offset_bounds-rows-i-then-h-eq0-2 c = omega (arith, c.requires)
 pub bounds-rows-i-then-h-eq0-2 : goal.bounds-rows-i-then-h-eq0-2
 bounds-rows-i-then-h-eq0-2 c = omega (arith, c.requires, c.lead.auto)
 
+pub overflow_add-result-2 : goal.overflow_add-result-2
+overflow_add-result-2 c = omega (arith, c.if-h-eq0.false, c.requires)
+
 pub shape_of-rows-then-h-eq0 : goal.shape_of-rows-then-h-eq0
-shape_of-rows-then-h-eq0 c = c.lead.auto.0
+shape_of-rows-then-h-eq0 c = c.lead.auto.rows
 
 pub returns-then-h-eq0 : goal.returns-then-h-eq0
 returns-then-h-eq0 c = (
@@ -71,16 +74,13 @@ returns-then-h-eq0 c = (
       let p = c.paths_of-p in
       let g = c.lead in
       let few : cell a.rows.now a.i 4 ≤ limits.most_paths = omega (arith, (b.rows a.i l).paths-are, (b.rows a.i l).few) in (
-        led_holds t a.rows.now g.last.0 a.count a.w.paths a.i p.result ts b g.ensures,
-        taken-new t a.rows.now g.last.0 a.count ts ps a.w a.i p.result c.bit_of-b.result l b k g.ensures (p.ensures.0 ∙ sym (most_under (cell a.rows.now a.i 4) few)) c.bit_of-b.ensures c.if-h-eq0.true,
+        led_holds t a.rows.now g.new.rows a.count a.w.paths a.i p.result ts b g.ensures,
+        taken-new t a.rows.now g.new.rows a.count ts ps a.w a.i p.result c.bit_of-b.result l b k g.ensures (p.ensures.0 ∙ sym (most_under (cell a.rows.now a.i 4) few)) c.bit_of-b.ensures c.if-h-eq0.true,
       ),
 )
 
-pub overflow_add-result-2 : goal.overflow_add-result-2
-overflow_add-result-2 c = omega (arith, c.if-h-eq0.false, c.requires)
-
 pub shape_of-rows : goal.shape_of-rows
-shape_of-rows c = c.lead.auto.0
+shape_of-rows c = c.lead.auto.rows
 
 pub returns : goal.returns
 returns c = (
@@ -90,7 +90,7 @@ returns c = (
       let p = c.paths_of-p in
       let g = c.lead in
       let few : cell a.rows.now a.i 4 ≤ limits.most_paths = omega (arith, (b.rows a.i l).paths-are, (b.rows a.i l).few) in (
-        led_holds t a.rows.now g.last.0 a.count a.w.paths a.i p.result ts b g.ensures,
-        taken-old t a.rows.now g.last.0 a.count ts ps a.w a.i p.result c.bit_of-b.result l b k g.ensures (p.ensures.0 ∙ sym (most_under (cell a.rows.now a.i 4) few)) c.bit_of-b.ensures c.if-h-eq0.false,
+        led_holds t a.rows.now g.new.rows a.count a.w.paths a.i p.result ts b g.ensures,
+        taken-old t a.rows.now g.new.rows a.count ts ps a.w a.i p.result c.bit_of-b.result l b k g.ensures (p.ensures.0 ∙ sym (most_under (cell a.rows.now a.i 4) few)) c.bit_of-b.ensures c.if-h-eq0.false,
       ),
 )

@@ -1,6 +1,5 @@
 -- `offers_join::incoming` meets its contract: the loop goes through the list of the incoming edges, and stops where an edge can't be served. Assumes nothing.
 use mathlib.Core.Path.{sym, ap, ◌∙◌, subst}
-use Prim.Native.Nat.{◌-◌}
 use native.Mathlib.Omega.{arith}
 use lib.ListN.{get_or, length-set}
 use borrow.Author.Rules.{rules}
@@ -17,12 +16,20 @@ loop-j-init c =
 pub returns-then-d-ge-MOST_OFFERS : goal.returns-then-d-ge-MOST_OFFERS
 returns-then-d-ge-MOST_OFFERS c = λ js h. listing_many (c.loop-j.invariant.1.1 js h) c.loop-j-test.true c.if-d-ge-MOST_OFFERS.true
 
+pub returns-then-d-eq0 : goal.returns-then-d-eq0
+returns-then-d-eq0 c = λ js h. listing_empty (c.loop-j.invariant.1.1 js h) (omega (arith, c.loop-j-test.false)) c.if-d-eq0.true
+
+pub returns : goal.returns
+returns c =
+    let l = c.loop-j in
+    λ js h. listing_served (l.invariant.1.1 js h) (omega (arith, c.loop-j-test.false)) (omega (arith, c.if-d-eq0.false)) l.invariant.0
+
 pub returns-then-to-j : goal.returns-then-to-j
-returns-then-to-j c = λ js h. listing_bare (c.loop-j.invariant.1.1 js h) c.loop-j-test.taken c.if-to-j.true
+returns-then-to-j c = λ js h. listing_bare (c.loop-j.invariant.1.1 js h) c.loop-j-test.true c.if-to-j.true
 
 pub loop-j-smaller : goal.loop-j-smaller
 loop-j-smaller c =
-    omega (arith, c.loop-j-test.taken, c.requires.0.forward c.loop-j.j c.loop-j-test.taken, c.wide-j-in-loop-j.ensures.0)
+    omega (arith, c.loop-j-test.true, c.requires.0.forward c.loop-j.j c.loop-j-test.true, c.wide-j-in-loop-j.ensures.0)
 
 pub loop-j-preserved : goal.loop-j-preserved
 loop-j-preserved c =
@@ -33,15 +40,7 @@ loop-j-preserved c =
       (
         (length-set l.lo l.d _ ∙ l.invariant.1.0.0, length-set l.hi l.d _ ∙ l.invariant.1.0.1),
         λ js h.
-            listing_more (l.invariant.1.1 js h) c.loop-j-test.taken (omega (arith, few, l.invariant.1.0.0, room.0)) (omega (arith, few, l.invariant.1.0.1, room.1))
+            listing_more (l.invariant.1.1 js h) c.loop-j-test.true (omega (arith, few, l.invariant.1.0.0, room.0)) (omega (arith, few, l.invariant.1.0.1, room.1))
             c.wide-j-in-loop-j.ensures.0,
       ),
     )
-
-pub returns-then-d-eq0 : goal.returns-then-d-eq0
-returns-then-d-eq0 c = λ js h. listing_empty (c.loop-j.invariant.1.1 js h) (omega (arith, c.loop-j-test.false)) c.if-d-eq0.true
-
-pub returns : goal.returns
-returns c =
-    let l = c.loop-j in
-    λ js h. listing_served (l.invariant.1.1 js h) (omega (arith, c.loop-j-test.false)) (omega (arith, c.if-d-eq0.false)) l.invariant.0

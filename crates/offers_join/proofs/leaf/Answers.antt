@@ -31,7 +31,7 @@ returns-then-p-gt-MOST_PATHS c = (
       let g = w.ensures.1 t ts ps b p in
       record {
         good = λ z. absurd (false≢true z);
-        bad = λ z. leaf_long t (rows_in w.new.0 a.count) ts ps w.result a.onto g.0 g.1 some y c.if-p-gt-MOST_PATHS.true;
+        bad = λ z. leaf_long t (rows_in w.new.rows a.count) ts ps w.result a.onto g.0 g.1 some y c.if-p-gt-MOST_PATHS.true;
       },
 )
 
@@ -44,7 +44,7 @@ returns c = (
       let g = w.ensures.1 t ts ps b p in
       record {
         good = λ z. c.grow.ensures t ts _ g.0
-            (leaf_ready t (rows_in w.new.0 a.count) ts ps w.result a.onto g.0 g.1 some y fr w.result.paths refl c.if-p-gt-MOST_PATHS.false (omega (arith, c.well-formed.1.1.1.1.0)) (omega (arith, c.well-formed.1.1.1.1.0)));
+            (leaf_ready t (rows_in w.new.rows a.count) ts ps w.result a.onto g.0 g.1 some y fr w.result.paths refl c.if-p-gt-MOST_PATHS.false (omega (arith, c.well_formed)) (omega (arith, c.well_formed)));
         bad = λ z. absurd (false≢true (sym z));
       },
 )

@@ -1,6 +1,6 @@
 -- `offers_join::span` meets its contract: the loop has the numbers from a to i. Assumes nothing.
 use mathlib.Core.Path.{sym, subst}
-use Prim.Native.Nat.{◌+◌, ◌-◌}
+use Prim.Native.Nat.{◌+◌}
 use native.Mathlib.Omega.{arith}
 use lib.Bits.{bit_or}
 use Rattle.offers_join.specs.Joins.{Span}

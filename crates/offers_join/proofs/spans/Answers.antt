@@ -1,6 +1,5 @@
 -- `offers_join::spans` meets its contract: the loop has the spans of the edges below k. Assumes nothing.
 use mathlib.Core.Path.{subst}
-use Prim.Native.Nat.{◌-◌}
 use native.Mathlib.Omega.{arith}
 use lib.ListN.{length-set, get_or}
 use borrow.Author.Rules.{rules}

@@ -1,7 +1,8 @@
 -- `offers_join::taken` meets its contract: the loop has taken the first q offers chosen. Assumes nothing.
+use mathlib.Core.List.{[]}
 use mathlib.Core.Path.{ap, sym, ◌∙◌, subst}
 use mathlib.Core.List.{◌∷◌, ◌++◌}
-use Prim.Native.Nat.{◌-◌, ◌<◌}
+use Prim.Native.Nat.{◌<◌}
 use native.Mathlib.Omega.{arith}
 use lib.ListN.{length, take}
 use borrow.Author.Rules.{rules}
@@ -17,6 +18,18 @@ loop-q-init c = (search rules, (search rules, (search rules, λ t ts ps h p. (h,
 
 pub add-w-requires : goal.add-w-requires
 add-w-requires c = let l = c.loop-q in let i = c.requires.1.1 l.q (omega arith) in omega (arith, c.wide.ensures.0)
+
+pub returns : goal.returns
+returns c = (
+  omega arith,
+  λ t ts ps h p.
+      let l = c.loop-q in
+      let a = c.args in
+      let r = l.invariant.1.1.1 t ts ps h p in (
+        r.0,
+        subst (λ z. Taken t (rows_in l.rows a.count) ts z l.w) (picked_all ts a.chosen.now a.d ps p l.q (omega arith)) r.1,
+      ),
+)
 
 pub loop-q-preserved : goal.loop-q-preserved
 loop-q-preserved c =
@@ -35,20 +48,8 @@ loop-q-preserved c =
               let lt : i.result < length ts = subst (λ z. z < length ts) (sym i.ensures.0) (p.inside l.q li) in
               let r = g.ensures.1 t ts (take l.q ps) old.0 lt old.1 in (
                 r.0,
-                subst (λ z. Taken t (rows_in g.new.0 a.count) ts z g.result) (ap (λ z. take l.q ps ++ (nth ts z ∷ [])) i.ensures.0 ∙ picked_next ts a.chosen.now a.d ps p l.q li) r.1,
+                subst (λ z. Taken t (rows_in g.new.rows a.count) ts z g.result) (ap (λ z. take l.q ps ++ (nth ts z ∷ [])) i.ensures.0 ∙ picked_next ts a.chosen.now a.d ps p l.q li) r.1,
               ),
         ),
       ),
     )
-
-pub returns : goal.returns
-returns c = (
-  omega arith,
-  λ t ts ps h p.
-      let l = c.loop-q in
-      let a = c.args in
-      let r = l.invariant.1.1.1 t ts ps h p in (
-        r.0,
-        subst (λ z. Taken t (rows_in l.rows a.count) ts z l.w) (picked_all ts a.chosen.now a.d ps p l.q (omega arith)) r.1,
-      ),
-)
