@@ -4,6 +4,7 @@ use mathlib.Core.Bool.{false}
 use mathlib.Core.List.{List}
 use Prim.Native.Nat.{ℕ}
 use lib.Dec.{eqb}
+use native.Mathlib.Omega.{arith}
 use borrow.Author.Tests.{eq-eqb, ne_eqb}
 use Rattle.paper.specs.Limits.{limits}
 use Rattle.paper.specs.Table.{is_control_node, chain}
@@ -19,24 +20,24 @@ free n t i g = sym g ∙ ne_eqb _ _ n
 
 pub returns-then-k-eq-ACTION : goal.returns-then-k-eq-ACTION
 returns-then-k-eq-ACTION c =
-    λ t i e h f g. c.action_fine.ensures t i h f ∙ at_action t i (free c.if-rank-eq-HIGHEST.false t i g) (sym e ∙ c.if-k-eq-ACTION.true)
+    λ t i e h f g. c.action_fine.ensures t i h f ∙ at_action t i (free (λ e. omega arith) t i g) (sym e ∙ c.if-k-eq-ACTION.true)
 
 pub returns-then-not-is_control_node : goal.returns-then-not-is_control_node
 returns-then-not-is_control_node c =
     λ t i e h f g.
-    at_rest t i (free c.if-rank-eq-HIGHEST.false t i g) (λ v. c.if-k-eq-ACTION.false (e ∙ v)) (ap is_control_node (sym e) ∙ sym c.is_control_node.ensures ∙ c.if-not-is_control_node.true)
+    at_rest t i (free (λ e. omega arith) t i g) (λ v. c.if-k-eq-ACTION.false (e ∙ v)) (ap is_control_node (sym e) ∙ sym c.is_control_node.ensures ∙ c.if-not-is_control_node.true)
 
 pub returns-then-k-eq-MERGE : goal.returns-then-k-eq-MERGE
 returns-then-k-eq-MERGE c =
-    λ t i e h f g. c.merge_fine.ensures t i h ∙ at_merge t i (free c.if-rank-eq-HIGHEST.false t i g) (sym e ∙ c.if-k-eq-MERGE.true)
+    λ t i e h f g. c.merge_fine.ensures t i h ∙ at_merge t i (free (λ e. omega arith) t i g) (sym e ∙ c.if-k-eq-MERGE.true)
 
 pub returns-then-k-eq-JOIN : goal.returns-then-k-eq-JOIN
 returns-then-k-eq-JOIN c =
-    λ t i e h f g. c.join_fine.ensures t i h ∙ at_join t i (free c.if-rank-eq-HIGHEST.false t i g) (sym e ∙ c.if-k-eq-JOIN.true)
+    λ t i e h f g. c.join_fine.ensures t i h ∙ at_join t i (free (λ e. omega arith) t i g) (sym e ∙ c.if-k-eq-JOIN.true)
 
 pub returns : goal.returns
 returns c =
     λ t i e h f g.
     c.split_fine.ensures t i h
-    ∙ at_split t i (free c.if-rank-eq-HIGHEST.false t i g) (ap is_control_node (sym e) ∙ sym c.is_control_node.ensures ∙ c.if-not-is_control_node.false)
+    ∙ at_split t i (free (λ e. omega arith) t i g) (ap is_control_node (sym e) ∙ sym c.is_control_node.ensures ∙ c.if-not-is_control_node.false)
     (λ v. c.if-k-eq-MERGE.false (e ∙ v)) (λ v. c.if-k-eq-JOIN.false (e ∙ v))
