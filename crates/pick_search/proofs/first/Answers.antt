@@ -7,12 +7,12 @@ use Rattle.pick_search.proofs.first.Goals as goal
 
 pub returns-in-Choice : goal.returns-in-Choice
 returns-in-Choice c = let a = c.args in
-    let g = c.c-1.given in
-    answers_choice (net_of a.net.now a.want) a.m c.requires.1 g.0.0
-    (sym (ap said g.1) ∙ c.search_all.ensures.0)
+    let g = c.in-Choice in
+    answers_choice (net_of a.net.now a.want) a.m c.requires.1 g.c
+    (sym (ap said g.is) ∙ c.search_all.ensures.0)
 
 pub returns-in-Nothing : goal.returns-in-Nothing
 returns-in-Nothing c = let a = c.args in
-    let g = c.enum_told-1.given in
+    let g = c.in-Nothing in
     answers_nothing (net_of a.net.now a.want) a.m c.requires.1
-    (sym (ap said g.1) ∙ c.search_all.ensures.0)
+    (sym (ap said g.is) ∙ c.search_all.ensures.0)

@@ -1,6 +1,6 @@
 -- `is_open`: it may not be had, or must be. Assumes nothing.
 use mathlib.Core.Path.{sym, ◌∙◌}
-use borrow.Author.Tests.{not-true, not-false}
+use borrow.Author.Tests.{not-false}
 use Rattle.paper.proofs.Bools.{never}
 use Rattle.pick_search.proofs.is_open.Goals as goal
 

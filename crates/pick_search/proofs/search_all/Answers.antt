@@ -21,8 +21,8 @@ scout-view-requires c = let pre = c.requires in (pre.0, pre.1)
 
 pub returns-in-Nothing : goal.returns-in-Nothing
 returns-in-Nothing c = let a = c.args in
-    let g = c.view-1.given in
-    whole-none (good a.net.now a.want) a.m c.end_of.result c.end_of.ensures c.requires.1 c.settle-b.result c.settle-b.ensures c.scout-view.result c.scout-view.ensures _ (ap seen g.1) (ap said g.1)
+    let g = c.in-Nothing in
+    whole-none (good a.net.now a.want) a.m c.end_of.result c.end_of.ensures c.requires.1 c.settle-b.result c.settle-b.ensures c.scout-view.result c.scout-view.ensures _ (ap seen g.is) (ap said g.is)
 
 pub search-v-requires : goal.search-v-requires
 search-v-requires c = let a = c.args in let pre = c.requires in (pre.0, pre.1, placed-start a.m)

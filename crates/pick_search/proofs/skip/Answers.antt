@@ -5,7 +5,6 @@ use native.Mathlib.Omega.{arith}
 use Rattle.pick_bounds.specs.Net.{meets}
 use Rattle.pick_search.specs.Searching.{stepped}
 use Rattle.pick_search.proofs.Searching.{small-weight, placed_decided, skips, skipped_none, skipped_then}
-use Prim.Native.Nat.{ℕ}
 use Rattle.pick_search.proofs.skip.Goals as goal
 
 pub loop-rest-init : goal.loop-rest-init
