@@ -1,17 +1,16 @@
 -- Row 18, from the fields of a list one by one, and the entry of an edge. Assumes nothing.
 use Prim.Native.Nat.{ℕ, ◌+◌, ◌*◌, ◌-◌, ◌≤◌, ◌<◌}
-use mathlib.Core.Path.{◌≡◌, refl, sym, ap, ◌∙◌, subst}
-use mathlib.Core.Bool.{Bool, true, false, ◌&&◌, ◌||◌}
+use mathlib.Core.Path.{◌≡◌, ap, ◌∙◌}
+use mathlib.Core.Bool.{Bool, true, false, ◌&&◌}
 use mathlib.Core.List.{List}
-use mathlib.Core.Option.{Option, none, some}
 use native.Mathlib.Omega.{arith}
 use native.Mathlib.Decide.{dec_lt}
-use lib.Dec.{leb, ltb, eqb}
+use lib.Dec.{ltb, eqb}
 use lib.ListN.{length}
 use borrow.Author.Tests.{eqb-true, eq-eqb, ne_eqb, le-leb, lt-leb, lt-ltb, le-ltb}
 use Rattle.paper.specs.Lists.{at}
 use Rattle.paper.specs.Bytes.{framed, word_at}
-use Rattle.paper.specs.Table.{edges, edge_kind, is_object}
+use Rattle.paper.specs.Table.{edges, edge_kind}
 use Rattle.paper.specs.Offers.{bounds_version, bounds_count, bound_at, bound_edge, low, high, bound_fine, bounds_fine}
 use Rattle.paper.proofs.Bools.{and-true, and_never}
 use Rattle.paper.proofs.Lists.{below_all, all_fails}

@@ -1,5 +1,5 @@
 -- Rows 7 and 18 one after the other, and the gate of an edge from its guard and its entry. Assumes nothing.
-use Prim.Native.Nat.{ℕ, ◌+◌, ◌*◌, ◌≤◌, ◌<◌}
+use Prim.Native.Nat.{ℕ, ◌≤◌, ◌<◌}
 use mathlib.Core.Path.{◌≡◌, refl, sym, ap, ◌∙◌, subst}
 use mathlib.Core.Bool.{Bool, true, false, ◌&&◌}
 use mathlib.Core.List.{List}
@@ -9,7 +9,7 @@ use lib.Dec.{eqb}
 use lib.ListN.{length}
 use Rattle.paper.specs.Lists.{at, within}
 use Rattle.paper.specs.Answers.{refused, good}
-use Rattle.paper.specs.Offers.{guards_fine, bounds_fine, bounds_count, bound_edge, low, high, in_bounds, terms, goes_over}
+use Rattle.paper.specs.Offers.{guards_fine, bounds_fine, bounds_count, bound_edge, low, high, in_bounds, goes_over}
 use Rattle.paper.proofs.Ladders.{need-good, need-passed}
 use Rattle.paper.proofs.BoundsLists.{GoodBounds, bounds-good, listed-bounds, unlisted_bounds}
 use Rattle.offers_over.specs.Over.{admitted}

@@ -1,5 +1,5 @@
 -- What reading guards and bounds answers, in the paper's numbers, the entries of a list, and the gates that guards and bounds stand for. Assumes nothing.
-use Rattle.std.specs.Prelude.{ℕ, ◌+◌, ◌*◌, ◌≤◌, ◌<◌, ◌≡◌, Bool, true, ◌⊎◌, List, length}
+use Rattle.std.specs.Prelude.{ℕ, ◌+◌, ◌*◌, ◌≤◌, ◌<◌, ◌≡◌, Bool, true, List, length}
 use Rattle.std.proofs.Math.Option.{Option}
 use Rattle.paper.specs.Answers.{Answer, refused, good, ◌>>=◌, need}
 use Rattle.paper.specs.Offers.{guards_fine, bounds_fine, bounds_count, bound_edge, terms, goes_over}

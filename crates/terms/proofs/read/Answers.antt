@@ -1,6 +1,5 @@
 -- `read`: row 7, then row 18. Assumes nothing.
 use mathlib.Core.Path.{sym, ◌∙◌}
-use borrow.Author.Tests.{not-true, not-false}
 use Rattle.terms.proofs.TermLaws.{terms_7, terms_18, terms_pass}
 use Rattle.terms.proofs.read.Goals as goal
 

@@ -1,11 +1,7 @@
 -- `bounds_fine`: the frame, then the entries one after the other. Assumes nothing.
-use Prim.Native.Nat.{◌-◌}
 use mathlib.Core.Path.{sym, ◌∙◌}
-use mathlib.Core.Bool.{true}
 use native.Mathlib.Omega.{arith}
 use borrow.Author.Count.{below_more}
-use borrow.Author.Tests.{not-true, not-false}
-use Rattle.paper.specs.Offers.{bound_fine}
 use Rattle.terms.proofs.BoundLaws.{frame_long, bounds_unframed, bounds-fail, bounds_pass, count-read}
 use Rattle.terms.proofs.bounds.bounds_fine.Goals as goal
 

@@ -1,11 +1,8 @@
 -- `guards_fine`: a byte for each edge, one after the other. Assumes nothing.
-use Prim.Native.Nat.{◌-◌}
 use mathlib.Core.Path.{sym, ◌∙◌}
-use mathlib.Core.Bool.{true}
 use native.Mathlib.Omega.{arith}
 use borrow.Author.Count.{below_more}
-use borrow.Author.Tests.{not-true, not-false}
-use Rattle.terms.proofs.GuardLaws.{guard_fine, guards-number, guards-fail, guards_pass}
+use Rattle.terms.proofs.GuardLaws.{guards-number, guards-fail, guards_pass}
 use Rattle.terms.proofs.guards.guards_fine.Goals as goal
 
 pub returns-then-g-n : goal.returns-then-g-n
