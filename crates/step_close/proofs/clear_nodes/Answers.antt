@@ -1,18 +1,18 @@
 -- `clear_nodes`: one node after the other; of an outgoing parameter the number of values is left as it is. Assumes nothing.
 use Prim.Native.Nat.{◌-◌, ◌<◌}
 use mathlib.Core.Path.{◌≡◌}
-use mathlib.Core.Logic.{⊎_elim}
 use native.Mathlib.Omega.{arith}
 use lib.ListN.{length}
 use Rattle.step_close.proofs.Clearing.{emptied_none, emptied_more, emptied_left}
 use Rattle.step_close.proofs.clear_nodes.Goals as goal
+use Rattle.step_close.proofs.clear_nodes.Goals.{then-kind-ne-OUTGOING, else-kind-ne-OUTGOING}
 
 pub loop-i-init : goal.loop-i-init
 loop-i-init c = let a = c.args in (omega arith, emptied_none a.t.now a.kept.now a.more.now a.runs.now)
 
 pub bounds-kept-i : goal.bounds-kept-i
 bounds-kept-i c =
-    let in_kept : c.loop-i.i < length c.loop-i.auto =
+    let in_kept : c.loop-i.i < length c.loop-i.kept =
       omega (arith, c.loop-i.invariant.1.kepts.long, c.requires.1, c.loop-i-test.true) in
     in_kept
 
@@ -30,7 +30,7 @@ bounds-runs-i c =
 
 pub loop-i-preserved : goal.loop-i-preserved
 loop-i-preserved c =
-    let in_kept : c.loop-i.i < length c.loop-i.auto =
+    let in_kept : c.loop-i.i < length c.loop-i.kept =
       omega (arith, c.loop-i.invariant.1.kepts.long, c.requires.1, c.loop-i-test.true) in
     let in_more : c.loop-i.i < length c.loop-i.more =
       omega (arith, c.loop-i.invariant.1.mores.long, c.requires.2, c.loop-i-test.true) in
@@ -39,10 +39,10 @@ loop-i-preserved c =
     let g = c.loop-i.invariant.1 in
     let k = c.kind.ensures.0 in (
       omega arith,
-      ⊎_elim
-          (λ w. rw (w.1, w.2) (emptied_more g (in_runs) k w.0.taken (in_kept) (in_more)))
-          (λ w. rw (w.1, w.2) (emptied_left g (in_runs) k w.0.left))
-          c.if-kind-ne-OUTGOING.branch,
+      elim c.if-kind-ne-OUTGOING.branch [
+        then-kind-ne-OUTGOING w ↦ rw (w.kept-is, w.more-is) (emptied_more g (in_runs) k w.if-kind-ne-OUTGOING.true (in_kept) (in_more))
+        | else-kind-ne-OUTGOING w ↦ rw (w.kept-is, w.more-is) (emptied_left g (in_runs) k w.if-kind-ne-OUTGOING.false)
+      ],
     )
 
 pub shape_of-kept : goal.shape_of-kept
