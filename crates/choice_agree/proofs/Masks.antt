@@ -1,12 +1,11 @@
 -- What masks of ends say: ends are counted by the ones of mask and choice. Assumes nothing.
 use mathlib.Core.Path.{◌≡◌, sym, ap, ◌∙◌}
-use mathlib.Core.Bool.{Bool, true, false, not, ◌&&◌, and_comm}
+use mathlib.Core.Bool.{Bool, true, false, ◌&&◌, and_comm}
 use mathlib.Core.List.{List}
 use Prim.Native.Nat.{ℕ, ◌^◌, ◌≤◌, ◌<◌}
 use lib.Dec.{eqb}
 use lib.Bits.{bit_and}
 use lib.Count.{ones}
-use borrow.Author.Tests.{not-true, not-false}
 use Rattle.paper.specs.Lists.{at, has, below, count}
 use Rattle.paper.proofs.Counts.{count-below-same, count_most}
 use Rattle.words.proofs.Ones.{ones_both}
@@ -30,8 +29,8 @@ seats_mask column n c x w m = counted c m
 
 -- ---- a rule asked only where it applies: r was asked for a
 module _ {r a : Bool} (e : r ≡ a) (q : Bool) where
-  pub stops : not r ≡ true → false ≡ a && q
-  stops h = rw (sym e ∙ not-true r h)
+  pub stops : r ≡ false → false ≡ a && q
+  stops h = rw (sym e ∙ h)
 
-  pub goes_on : not r ≡ false → q ≡ a && q
-  goes_on h = rw (sym e ∙ not-false r h)
+  pub goes_on : r ≡ true → q ≡ a && q
+  goes_on h = rw (sym e ∙ h)

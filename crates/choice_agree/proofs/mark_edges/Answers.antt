@@ -11,12 +11,12 @@ use Rattle.choice_agree.proofs.mark_edges.Goals as goal
 
 pub loop-e-init : goal.loop-e-init
 loop-e-init c = let a = c.args in
-    (search rules, refl, λ p h. pass_none p (edge_wrong a.t.now (is_marked a.starting.now) a.c a.by-edge.now) (target_of a.t.now) h)
+    (search rules, refl, λ p h. pass_none p (edge_wrong a.t.now (is_marked a.starting.now) a.c a.by_edge.now) (target_of a.t.now) h)
 
 pub loop-e-preserved : goal.loop-e-preserved
 loop-e-preserved c = let a = c.args in
     let l = c.loop-e in
-    (search rules, search rules, λ p h. pass_more p (edge_wrong a.t.now (is_marked a.starting.now) a.c a.by-edge.now) (target_of a.t.now) _ l.e (omega (arith, l.invariant.1)) c.mark.ensures c.edge_wrong.ensures c.target.ensures.0 (l.invariant.2 p h))
+    (search rules, search rules, λ p h. pass_more p (edge_wrong a.t.now (is_marked a.starting.now) a.c a.by_edge.now) (target_of a.t.now) _ l.e (omega (arith, l.invariant.1)) c.mark.ensures c.edge_wrong.ensures c.target.ensures.0 (l.invariant.2 p h))
 
 pub returns : goal.returns
 returns c = let l = c.loop-e in

@@ -11,12 +11,12 @@ use Rattle.choice_agree.proofs.mark_pins.Goals as goal
 
 pub loop-p-init : goal.loop-p-init
 loop-p-init c = let a = c.args in
-    (search rules, refl, λ q h. pass_none q (pin_wrong a.t.now (is_marked a.starting.now) a.c a.by-target.now) (ownerOf a.t.now) h)
+    (search rules, refl, λ q h. pass_none q (pin_wrong a.t.now (is_marked a.starting.now) a.c a.by_target.now) (ownerOf a.t.now) h)
 
 pub loop-p-preserved : goal.loop-p-preserved
 loop-p-preserved c = let a = c.args in
     let l = c.loop-p in
-    (search rules, search rules, λ q h. pass_more q (pin_wrong a.t.now (is_marked a.starting.now) a.c a.by-target.now) (ownerOf a.t.now) _ l.p (omega (arith, l.invariant.1)) c.mark.ensures c.pin_wrong.ensures c.owner.ensures.0 (l.invariant.2 q h))
+    (search rules, search rules, λ q h. pass_more q (pin_wrong a.t.now (is_marked a.starting.now) a.c a.by_target.now) (ownerOf a.t.now) _ l.p (omega (arith, l.invariant.1)) c.mark.ensures c.pin_wrong.ensures c.owner.ensures.0 (l.invariant.2 q h))
 
 pub returns : goal.returns
 returns c = let l = c.loop-p in

@@ -17,8 +17,8 @@ returns c = let a = c.args in
     let p = c.requires in
     let t = a.t.now in
     let s = is_marked a.starting.now in
-    let e = placed (edge_wrong t s a.c a.by-edge.now) (target_of t) (edges t) in
-    let i = placed (pin_wrong t s a.c a.by-target.now) (ownerOf t) (nodes t) in
+    let e = placed (edge_wrong t s a.c a.by_edge.now) (target_of t) (edges t) in
+    let i = placed (pin_wrong t s a.c a.by_target.now) (ownerOf t) (nodes t) in
     let one = c.mark_edges.ensures (λ i. false) (record { tell = λ i l. blank limits.most_nodes i }) in
     let two = c.mark_pins.ensures e one in
     let three = c.mark_nodes.ensures (λ j. e j || i j) two in
