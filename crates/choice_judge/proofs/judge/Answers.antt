@@ -21,7 +21,7 @@ parted_fork-requires c =
 pub returns-in-At-parted_fork : goal.returns-in-At-parted_fork
 returns-in-At-parted_fork c =
     let offers-of : Offers =
-      c.args.t3 in
+      c.args.offers in
     let apart_none : let a = c.args in first_rivalled a.ends.foes a.ends.makers a.ends.count a.c ≡ none =
       sym (c.competing_end.ensures c.all_makers-w.ensures) ∙ ap found c.in_default.is in
     let forks-are : let a = c.args in let o = offers-of in forks o.node o.parents a.ends.makers o.count a.ends.count a.c a.t.now ≡ forks_in o.node o.parents o.count c.all_makers-w.result a.t.now =
@@ -34,7 +34,7 @@ unfit_node-requires c = (read-spans c.args.t.now c.requires.0, c.requires.2, c.r
 pub returns-in-At-unfit_node : goal.returns-in-At-unfit_node
 returns-in-At-unfit_node c =
     let offers-of : Offers =
-      c.args.t3 in
+      c.args.offers in
     let apart_none : let a = c.args in first_rivalled a.ends.foes a.ends.makers a.ends.count a.c ≡ none =
       sym (c.competing_end.ensures c.all_makers-w.ensures) ∙ ap found c.in_default.is in
     let forks-are : let a = c.args in let o = offers-of in forks o.node o.parents a.ends.makers o.count a.ends.count a.c a.t.now ≡ forks_in o.node o.parents o.count c.all_makers-w.result a.t.now =
@@ -46,7 +46,7 @@ returns-in-At-unfit_node c =
 pub returns : goal.returns
 returns c =
     let offers-of : Offers =
-      c.args.t3 in
+      c.args.offers in
     let apart_none : let a = c.args in first_rivalled a.ends.foes a.ends.makers a.ends.count a.c ≡ none =
       sym (c.competing_end.ensures c.all_makers-w.ensures) ∙ ap found c.in_default.is in
     let forks-are : let a = c.args in let o = offers-of in forks o.node o.parents a.ends.makers o.count a.ends.count a.c a.t.now ≡ forks_in o.node o.parents o.count c.all_makers-w.result a.t.now =

@@ -1,6 +1,5 @@
 -- `made_from`: nothing, or the parents. Assumes nothing.
 use mathlib.Core.Path.{sym, ◌∙◌}
-use borrow.Author.Tests.{not-true, not-false}
 use Rattle.paper.proofs.Digits.{has-zero}
 use Rattle.choice_judge.proofs.made_from.Goals as goal
 
