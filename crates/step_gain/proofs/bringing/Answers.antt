@@ -1,13 +1,13 @@
 -- `bringing`: one end after the other. The invariant: the word has those passed that are taken and have a value. Assumes nothing.
 use mathlib.Core.Path.{◌≡◌, sym, ap, ◌∙◌}
 use mathlib.Core.Bool.{Bool, not, ◌&&◌}
-use mathlib.Core.Logic.{⊎_elim}
 use Prim.Native.Nat.{ℕ, ◌-◌}
 use native.Mathlib.Omega.{arith}
 use lib.Dec.{eqb}
 use Rattle.paper.specs.Lists.{at, has}
 use Rattle.offers.proofs.Sets.{marks_nil, marks_skip, marks-more}
 use Rattle.step_gain.proofs.bringing.Goals as goal
+use Rattle.step_gain.proofs.bringing.Goals.{then-brings_value, else-brings_value}
 
 pub loop-k-init : goal.loop-k-init
 loop-k-init c = (omega arith, marks_nil _)
@@ -25,10 +25,10 @@ loop-k-preserved c = let a = c.args in
     ∙ ap (λ (y : ℕ). has a.c s.k && not (eqb (at a.valued.now y) 0)) c.wide.ensures.0 in
     let p : ℕ → Bool = λ j. has a.c j && not (eqb (at a.valued.now (at a.row.now j)) 0) in (
       omega arith,
-      ⊎_elim
-          (λ w. rw (w.2, w.1.ensures) (marks-more p s.k s.w (sym e ∙ w.0.taken) s.invariant.1))
-          (λ w. rw w.1 (marks_skip p s.k s.w (sym e ∙ w.0.left) s.invariant.1))
-          c.if-brings_value.branch,
+      elim c.if-brings_value.branch [
+        then-brings_value w ↦ rw (w.w-is, w.end_of-w.ensures) (marks-more p s.k s.w (sym e ∙ w.if-brings_value.true) s.invariant.1)
+        | else-brings_value w ↦ rw w.w-is (marks_skip p s.k s.w (sym e ∙ w.if-brings_value.false) s.invariant.1)
+      ],
     )
 
 pub returns : goal.returns

@@ -1,6 +1,5 @@
 -- `brings_value`: taken, and its row has a value. Assumes nothing.
 use mathlib.Core.Path.{sym, ◌∙◌}
-use borrow.Author.Tests.{not-true, not-false}
 use Rattle.step_gain.proofs.brings_value.Goals as goal
 
 pub returns-then-not-is_taken : goal.returns-then-not-is_taken

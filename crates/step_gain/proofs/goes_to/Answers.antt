@@ -1,6 +1,5 @@
 -- `goes_to`: of the word, and at the node. Assumes nothing.
 use mathlib.Core.Path.{sym, ap, ◌∙◌}
-use borrow.Author.Tests.{not-true, not-false}
 use lib.Dec.{eqb}
 use Rattle.step_gain.proofs.goes_to.Goals as goal
 

@@ -44,7 +44,7 @@ shape_of-runs c = c.loop-i.invariant.1.long
 
 pub returns : goal.returns
 returns c = let a = c.args in
-    let e = a.t3 in
+    let e = a.ends in
     let q : c.loop-i.i ≡ a.table.nodes = omega arith in
     started_marked a.t.now e.target e.home e.count a.c c.touched_nodes-touched.ensures (omega (arith, c.requires.0.few-nodes))
     (rw q at c.loop-i.invariant.1)

@@ -7,7 +7,7 @@ use Rattle.step_gain.specs.Gains.{Started}
 use Rattle.step_gain.proofs.run.Given as goal
 
 abbrev pub invariant-loop-i : goal.invariant-loop-i
-invariant-loop-i l = (l.i ≤ l.n) × Started (λ l.i. is_action (kind_of l.t l.i) && is_marked l.touched l.i) l.initial.runs l.runs l.i
+invariant-loop-i l = (l.i ≤ l.n) × Started (λ i. is_action (kind_of l.t i) && is_marked l.touched i) l.initial.runs l.runs l.i
 
 abbrev pub decreases-loop-i : goal.decreases-loop-i
 decreases-loop-i l = l.n - l.i
