@@ -17,31 +17,77 @@ use Rattle.step.proofs.Moving.{Stages, stages_held}
 use Rattle.step.proofs.Laws.{chosen_9, settled-reply, settled-refused, settled_moves}
 use Rattle.step.proofs.Closing.{targets-nodes, next-held, next-state}
 use Rattle.step.proofs.step.Goals as goal
+use Rattle.step.proofs.step.Goals.{After-close-state}
+
+-- ---- the columns, where the stages are done, and what is written
+module _ (c : After-close-state) where
+  abbrev On : Type 0
+  On = let a = c.args in Standing a.t.now a.b.now a.offers a.ends (fields_held a.fields)
+
+  abbrev spent_now : ℕ → Bool
+  spent_now =
+      let o = c.args.offers in
+      spends o.last o.parents o.count c.all_makers-made.result
+
+  stages : Stages c.args.t.now c.args.table c.args.offers c.args.ends c.in-Good.c c.all_makers-made.result c.bringing-bringing.result
+      c.args.fields.from c.args.fields.kept c.args.fields.tokens c.spend_stocks.new.from c.spend_stocks.new.kept c.gain.new.place
+      c.gain.new.more c.run.new.runs c.spend_tokens.new.tokens c.gain.new.extra
+  stages = record {
+    makers-are = c.all_makers-made.ensures;
+    valued_are = c.bringing-bringing.ensures;
+    tokens_gone = c.spend_tokens.ensures spent_now c.spent_edges-spent.ensures;
+    oldest_gone = c.spend_stocks.ensures spent_now c.spent_edges-spent.ensures;
+    came = c.gain.ensures;
+    started = c.run.ensures;
+  }
+
+  abbrev written : Held
+  written =
+      let w = c.close-state.new in
+      held_in c.spend_stocks.new.from w.kept c.gain.new.place w.more w.runs w.tokens
+
+  next-is-held : (s : On) → MarkingHeld c.args.t.now (next s.on c.in-Good.c) c.args.b.now c.gain.new.extra written
+  next-is-held s = next-held s.stands c.in-Good.c c.close-state.ensures.1
+      (stages_held stages c.requires.0 s.on s.stands (omega (arith, s.short)) s.held_as)
+
+  state-is : (s : On) → c.close-state.result ≡ one_if (next s.on c.in-Good.c).ended
+  state-is s = c.close-state.ensures.0 ∙ next-state s.stands c.in-Good.c s.live
+
+  lengths : HeldLengths written
+  lengths =
+      let f = c.requires.3 in
+      record {
+        from-long = omega (arith, c.spend_stocks.auto.from, f.from-long);
+        kept-long = omega (arith, c.close-state.auto.kept, c.spend_stocks.auto.kept, f.kept-long);
+        place-long = omega (arith, c.gain.auto.place);
+        more-long = omega (arith, c.close-state.auto.more, c.gain.auto.more);
+        runs-long = omega (arith, c.close-state.auto.runs, c.run.auto.runs, f.kept-long);
+        tokens-long = omega (arith, c.close-state.auto.tokens, c.spend_tokens.auto.tokens, f.tokens-long);
+      }
 
 pub returns-in-Refused : goal.returns-in-Refused
 returns-in-Refused c = let a = c.args in
-    λ s. chosen_9 a.t.now s.on a.t6.count s.stands.seated.number a.choice.now _ _ _ a.out.now
+    λ s. chosen_9 a.t.now s.on a.ends.count s.stands.seated.number a.choice.now _ _ _ a.out.now
     (sym (ap said c.in-Refused.is) ∙ c.read_choice.ensures) c.pack.ensures
 
 pub returns-in-Refused-judge : goal.returns-in-Refused-judge
 returns-in-Refused-judge c =
-    let taken : ℕ =
-      c.in-Good.c in
+    let taken : ℕ = c.in-Good.c in
     let a = c.args in
-    λ s. settled-reply a.t.now s.on a.t6.count s.stands.seated.number a.choice.now (taken)
+    λ s. settled-reply a.t.now s.on a.ends.count s.stands.seated.number a.choice.now taken
     (sym (ap said c.in-Good.is) ∙ c.read_choice.ensures) c.pack-in-Refused-judge.result a.out.now _
-    (settled-refused s (taken) c.judge.result c.judge.ensures _ _ _ a.out.now c.in-Refused-judge.is c.pack-in-Refused-judge.ensures)
+    (settled-refused s taken c.judge.result c.judge.ensures _ _ _ a.out.now c.in-Refused-judge.is c.pack-in-Refused-judge.ensures)
 
 pub bringing-bringing-requires : goal.bringing-bringing-requires
 bringing-bringing-requires c = let p = c.requires in
-    (ends-rowed p.2 p.4.stands c.args.t5.has p.1.haves-full, p.2.few)
+    (ends-rowed p.2 p.4.stands c.args.offers.has p.1.haves-full, p.2.few)
 
 pub slice_bounds-spend_tokens-end-2 : goal.slice_bounds-spend_tokens-end-2
 slice_bounds-spend_tokens-end-2 c = sym c.requires.3.tokens-long
 
 pub spend_tokens-requires : goal.spend_tokens-requires
 spend_tokens-requires c = let n = edges_most c.args.t.now c.requires.0 in
-    (n, omega (arith, n, slice-aggregate-spend-tokens c), omega (arith, n, c.requires.3.tokens-long))
+    (n, omega (arith, n), omega (arith, n, c.requires.3.tokens-long))
 
 pub slice_bounds-spend_stocks-end-2 : goal.slice_bounds-spend_stocks-end-2
 slice_bounds-spend_stocks-end-2 c = sym c.requires.3.from-long
@@ -53,7 +99,7 @@ pub spend_stocks-requires : goal.spend_stocks-requires
 spend_stocks-requires c = let t = c.args.t.now in
     let n = nodes_most t c.requires.0 in (
       read-spans t c.requires.0,
-      omega (arith, edges_most t c.requires.0, slice-aggregate-spend-stocks c),
+      omega (arith, edges_most t c.requires.0),
       omega (arith, n, c.requires.3.from-long),
       omega (arith, n, c.requires.3.kept-long),
     )
@@ -61,7 +107,7 @@ spend_stocks-requires c = let t = c.args.t.now in
 pub gain-requires : goal.gain-requires
 gain-requires c = let p = c.requires in
     let n = nodes_most c.args.t.now p.0 in
-    (n, p.2, ends-rowed p.2 p.4.stands c.args.t5.value p.1.values-full, omega arith, omega (arith, n), omega (arith, n))
+    (n, p.2, ends-rowed p.2 p.4.stands c.args.offers.value p.1.values-full, omega arith, omega (arith, n), omega (arith, n))
 
 pub run-requires : goal.run-requires
 run-requires c = let t = c.args.t.now in
@@ -76,92 +122,24 @@ close-state-requires c = let p = c.requires in
       targets-nodes p.4.stands p.0,
       p.2.few,
       record {
-        in_kept = omega (arith, n, c.spend_stocks.auto, p.3.kept-long);
-        in_more = omega (arith, n, c.gain.auto);
-        in_runs = omega (arith, n, c.run.auto, p.3.kept-long);
-        in_tokens = omega (arith, edges_most t p.0, c.spend_tokens.auto, p.3.tokens-long);
+        in_kept = omega (arith, n, c.spend_stocks.auto.kept, p.3.kept-long);
+        in_more = omega (arith, n, c.gain.auto.more);
+        in_runs = omega (arith, n, c.run.auto.runs, p.3.kept-long);
+        in_tokens = omega (arith, edges_most t p.0, c.spend_tokens.auto.tokens, p.3.tokens-long);
       },
     )
 
 pub reply-requires : goal.reply-requires
 reply-requires c =
-    let taken : ℕ =
-      c.in-Good.c in
-    let On : Type 0 =
-      let a = c.args in Standing a.t.now a.b.now a.t5 a.t6 (fields_held a.fields) in
-    let chosen-now : ℕ =
-      taken in
-    let from : List ℕ =
-      c.spend_stocks.last.1.1.1.0 in
-    let extra : List ℕ =
-      c.gain.last.1.1.1.1.0 in
-    let place : List ℕ =
-      c.gain.last.1.1.1.1.1.0 in
-    let spent_now : ℕ → Bool =
-      let o = c.args.t5 in
-      spends o.last o.parents o.count c.all_makers-made.result in
-    let stages : Stages c.args.t.now c.args.table c.args.t5 c.args.t6 chosen-now c.all_makers-made.result c.bringing-bringing.result c.args.fields.from c.args.fields.kept c.args.fields.tokens from c.spend_stocks.last.1.1.1.1.0 place c.gain.last.1.1.1.1.1.1.0 c.run.new.1.1.1.1.0 c.spend_tokens.last.1.1.0 extra =
-      record {
-      makers-are = c.all_makers-made.ensures;
-      valued_are = c.bringing-bringing.ensures;
-      tokens_gone = c.spend_tokens.ensures spent_now c.spent_edges-spent.ensures;
-      oldest_gone = c.spend_stocks.ensures spent_now c.spent_edges-spent.ensures;
-      came = c.gain.ensures;
-      started = c.run.ensures;
-      } in
-    let written : Held =
-      let w = c.close-state.new.1.1.1.1.1 in held_in (from c) w.0 (place c) w.1.0 w.1.1.0 w.1.1.1.0 in
-    let next-is-held : (s : On) → MarkingHeld c.args.t.now (next s.on (chosen-now c)) c.args.b.now (extra c) written =
-      λ s. next-held s.stands (chosen-now c) c.close-state.ensures.1
-      (stages_held (stages c) c.requires.0 s.on s.stands (omega (arith, s.short)) s.held_as) in
-    let lengths : HeldLengths written =
-      let f = c.requires.3 in
-      record {
-      from-long = omega (arith, c.spend_stocks.kept, f.from-long);
-      kept-long = omega (arith, c.close-state.auto, c.spend_stocks.kept, f.kept-long);
-      place-long = omega (arith, c.gain.kept);
-      more-long = omega (arith, c.close-state.auto, c.gain.kept);
-      runs-long = omega (arith, c.close-state.auto, c.run.auto, f.kept-long);
-      tokens-long = omega (arith, c.close-state.auto, c.spend_tokens.kept, f.tokens-long);
-      } in
-    (c.requires.0, lengths, held-inside (next-is-held c.requires.4))
+    let k = (goal.at.reply-requires c).After-close-state in
+    (c.requires.0, lengths k, held-inside (next-is-held k c.requires.4))
 
 pub returns : goal.returns
 returns c =
-    let taken : ℕ =
-      c.in-Good.c in
-    let On : Type 0 =
-      let a = c.args in Standing a.t.now a.b.now a.t5 a.t6 (fields_held a.fields) in
-    let chosen-now : ℕ =
-      taken in
-    let from : List ℕ =
-      c.spend_stocks.last.1.1.1.0 in
-    let extra : List ℕ =
-      c.gain.last.1.1.1.1.0 in
-    let place : List ℕ =
-      c.gain.last.1.1.1.1.1.0 in
-    let spent_now : ℕ → Bool =
-      let o = c.args.t5 in
-      spends o.last o.parents o.count c.all_makers-made.result in
-    let stages : Stages c.args.t.now c.args.table c.args.t5 c.args.t6 chosen-now c.all_makers-made.result c.bringing-bringing.result c.args.fields.from c.args.fields.kept c.args.fields.tokens from c.spend_stocks.last.1.1.1.1.0 place c.gain.last.1.1.1.1.1.1.0 c.run.new.1.1.1.1.0 c.spend_tokens.last.1.1.0 extra =
-      record {
-      makers-are = c.all_makers-made.ensures;
-      valued_are = c.bringing-bringing.ensures;
-      tokens_gone = c.spend_tokens.ensures spent_now c.spent_edges-spent.ensures;
-      oldest_gone = c.spend_stocks.ensures spent_now c.spent_edges-spent.ensures;
-      came = c.gain.ensures;
-      started = c.run.ensures;
-      } in
-    let written : Held =
-      let w = c.close-state.new.1.1.1.1.1 in held_in (from c) w.0 (place c) w.1.0 w.1.1.0 w.1.1.1.0 in
-    let next-is-held : (s : On) → MarkingHeld c.args.t.now (next s.on (chosen-now c)) c.args.b.now (extra c) written =
-      λ s. next-held s.stands (chosen-now c) c.close-state.ensures.1
-      (stages_held (stages c) c.requires.0 s.on s.stands (omega (arith, s.short)) s.held_as) in
-    let state-is : (s : On) → c.close-state.result ≡ one_if (next s.on (chosen-now c)).ended =
-      λ s. c.close-state.ensures.0 ∙ next-state s.stands (chosen-now c) s.live in
+    let k = (goal.at.returns c).After-close-state in
     let r = c.reply in
     let a = c.args in
-    λ s. settled-reply a.t.now s.on a.t6.count s.stands.seated.number a.choice.now (taken)
+    λ s. settled-reply a.t.now s.on a.ends.count s.stands.seated.number a.choice.now c.in-Good.c
     (sym (ap said c.in-Good.is) ∙ c.read_choice.ensures) r.result a.out.now _
-    (settled_moves s (taken) c.judge.result c.judge.ensures c.in_default.is r.result a.out.now _
-    (r.ensures (next s.on (taken)) (next-is-held s) (state-is s)))
+    (settled_moves s c.in-Good.c c.judge.result c.judge.ensures c.in_default.is r.result a.out.now _
+    (r.ensures (next s.on c.in-Good.c) (next-is-held k s) (state-is k s)))
