@@ -1,5 +1,5 @@
 -- `gain`: one edge after the other, until one is full. Assumes nothing.
-use Prim.Native.Nat.{ℕ, ◌<◌, ◌-◌, ◌+◌}
+use Prim.Native.Nat.{ℕ, ◌<◌, ◌+◌}
 use mathlib.Core.Path.{◌≡◌, sym, ap, subst, ◌∙◌}
 use mathlib.Core.List.{List}
 use native.Mathlib.Omega.{arith}
@@ -55,22 +55,22 @@ loop-j-preserved c = let a = c.args in
     let r = read-spans a.t.now c.requires.0 in
     let n : s.j < edges a.t.now = omega (arith, r.edges-read, c.loop-j-test.true) in
     elim c.if-gains.branch [
-      then-gains+else-tokens-j w ↦ (
+      | then-gains+else-tokens-j w ↦ (
         omega arith,
         ap length w.tokens-is ∙ length-set s.tokens s.j _ ∙ s.invariant.1,
         λ held h small.
             subst (λ (l : List ℕ). GainedTo a.t.now fires held a.tokens.now h small l (s.j + 1)) (sym w.tokens-is)
             (gained-one a.t.now fires held a.tokens.now h small s.tokens s.j n (s.invariant.2 held h small) c.gains.ensures
             (omega arith) w.if-gains.true w.if-tokens-j.false),
-        s.invariant.3
+        s.invariant.3,
       )
-    | else-gains w ↦ (
+      | else-gains w ↦ (
         omega arith,
         ap length w.tokens-is ∙ s.invariant.1,
         λ held h small.
             subst (λ (l : List ℕ). GainedTo a.t.now fires held a.tokens.now h small l (s.j + 1)) (sym w.tokens-is)
             (gained-none a.t.now fires held a.tokens.now h small s.tokens s.j n (s.invariant.2 held h small) c.gains.ensures w.if-gains.false),
-        s.invariant.3
+        s.invariant.3,
       )
     ]
 

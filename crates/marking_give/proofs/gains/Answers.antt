@@ -1,7 +1,5 @@
 -- `gains`: a source that fires, and a count. Assumes nothing.
 use native.Mathlib.Omega.{arith}
-use borrow.Author.Tests.{not-true, not-false}
-use Rattle.paper.specs.Table.{source}
 use Rattle.table.proofs.Reading.{read-spans, source-node}
 use Rattle.marking_give.proofs.GainLaws.{gains_none, gains_count}
 use Rattle.marking_give.proofs.gains.Goals as goal

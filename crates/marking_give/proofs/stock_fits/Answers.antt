@@ -3,7 +3,7 @@ use mathlib.Core.Path.{sym, ap, ap₂, ◌∙◌}
 use native.Mathlib.Omega.{arith}
 use Prim.Native.Nat.{◌+◌}
 use lib.Dec.{leb}
-use borrow.Author.Tests.{le-leb, not-true, not-false}
+use borrow.Author.Tests.{le-leb}
 use Rattle.paper.specs.Table.{is_object_node}
 use Rattle.marking_give.proofs.stock_fits.Goals as goal
 

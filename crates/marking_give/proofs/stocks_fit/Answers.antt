@@ -1,10 +1,7 @@
 -- `stocks_fit`: every stock, one after the other. Assumes nothing.
-use Prim.Native.Nat.{◌-◌}
 use mathlib.Core.Path.{sym, ◌∙◌}
-use mathlib.Core.Bool.{true}
 use native.Mathlib.Omega.{arith}
 use borrow.Author.Count.{below_more}
-use borrow.Author.Tests.{not-true, not-false}
 use lib.Dec.{leb}
 use Rattle.paper.specs.Table.{nodes, upper}
 use Rattle.paper.proofs.Lists.{below_all, all_fails}

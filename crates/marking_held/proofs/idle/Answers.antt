@@ -1,6 +1,6 @@
 -- `idle` empties the action's input pins, one after the other. Assumes nothing.
 use mathlib.Core.Path.{◌≡◌, ◌∙◌}
-use Prim.Native.Nat.{◌-◌, ◌<◌}
+use Prim.Native.Nat.{◌<◌}
 use native.Mathlib.Omega.{arith}
 use lib.ListN.{length, set, length-set}
 use Rattle.paper.specs.Table.{nodes}
@@ -17,14 +17,14 @@ bounds-kept-i c = omega (arith, c.loop-i.invariant.1.long, length-set c.args.kep
 pub loop-i-preserved : goal.loop-i-preserved
 loop-i-preserved c =
     let inside : c.loop-i.i < length c.loop-i.kept =
-      omega (arith, c.loop-i.invariant.1.long, length-set c.args.kept.now c.args.a 0, c.requires.2, c.loop-i-test.true) in
+    omega (arith, c.loop-i.invariant.1.long, length-set c.args.kept.now c.args.a 0, c.requires.2, c.loop-i-test.true) in
     let a = c.args in
     let pins = c.loop-i.invariant.1 in
     let q = c.is_listed.ensures in (
       omega arith,
       elim c.if-is_listed.branch [
-        then-is_listed w ↦ rw w.kept-is (pins_more a.t.now a.a pins q inside w.if-is_listed.true)
-      | else-is_listed w ↦ rw w.kept-is (pins_skip a.t.now a.a pins q w.if-is_listed.false)
+        | then-is_listed w ↦ rw w.kept-is (pins_more a.t.now a.a pins q inside w.if-is_listed.true)
+        | else-is_listed w ↦ rw w.kept-is (pins_skip a.t.now a.a pins q w.if-is_listed.false)
       ],
     )
 

@@ -1,5 +1,4 @@
 -- `edges_size` is what the edges' counts take. The invariant: the sum of those passed, of which each is at most 1. Assumes nothing.
-use Prim.Native.Nat.{◌-◌}
 use mathlib.Core.Path.{◌≡◌}
 use native.Mathlib.Omega.{arith}
 use Rattle.paper.specs.Table.{edges}

@@ -3,7 +3,6 @@ use Rattle.wire.specs.Totals.{total}
 use borrow.Author.Rules.{rules}
 use Rattle.marking_write.proofs.WritingLaws.{size_same}
 use mathlib.Core.Path.{◌≡◌}
-use Prim.Native.Nat.{◌-◌}
 use native.Mathlib.Omega.{arith}
 use Rattle.paper.specs.Table.{nodes}
 use Rattle.wire.proofs.Runs.{total-more}

@@ -32,10 +32,10 @@ write_nodes-next-requires c = let p = c.requires in
 pub write_edges-requires : goal.write_edges-requires
 unfolding size_of
 write_edges-requires c = let p = c.requires in (
-      p.0,
-      omega (arith, edges_most c.args.t.now p.0, p.1.tokens-long),
-      omega (arith, c.size-len.ensures.0, c.if-out-len.false, c.write_nodes-next.ensures.0, c.write_nodes-next.auto),
-    )
+  p.0,
+  omega (arith, edges_most c.args.t.now p.0, p.1.tokens-long),
+  omega (arith, c.size-len.ensures.0, c.if-out-len.false, c.write_nodes-next.ensures.0, c.write_nodes-next.auto),
+)
 
 pub returns : goal.returns
 returns c = let w = c.write_nodes-next.ensures in

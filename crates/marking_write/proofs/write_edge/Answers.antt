@@ -2,7 +2,6 @@
 use mathlib.Core.Path.{◌≡◌, sym, ◌∙◌}
 use mathlib.Core.Bool.{true, false}
 use native.Mathlib.Omega.{arith}
-use borrow.Author.Tests.{not-true, not-false}
 use Rattle.paper.specs.Marking.{counted}
 use Rattle.marking_write.proofs.WritingLaws.{count-size, uncounted_size, count-bytes, uncounted_bytes}
 use Rattle.marking_write.proofs.write_edge.Goals as goal

@@ -1,7 +1,6 @@
 -- `write_edges` stores the edges' counts as one run. The invariant: those passed are stored, and the next starts where they end. Assumes nothing.
 use Rattle.table.proofs.Reading.{read-spans}
 use mathlib.Core.Path.{◌≡◌, refl}
-use Prim.Native.Nat.{◌-◌}
 use native.Mathlib.Omega.{arith}
 use Rattle.paper.specs.Table.{edges}
 use Rattle.wire.proofs.Runs.{total-more, total-room}

@@ -8,9 +8,9 @@ use Rattle.marking_write.proofs.write_stock.Goals as goal
 
 pub copy-requires : goal.copy-requires
 copy-requires c = let w = c.wide-kept.ensures.0 in (
-      omega (arith, c.requires.0.in_old, c.place_of.ensures.0, w),
-      omega (arith, c.requires.1, w, length-set c.args.out.now c.args.to (c.args.node.kept + c.args.node.more)),
-    )
+  omega (arith, c.requires.0.in_old, c.place_of.ensures.0, w),
+  omega (arith, c.requires.1, w, length-set c.args.out.now c.args.to (c.args.node.kept + c.args.node.more)),
+)
 
 pub copy-requires-2 : goal.copy-requires-2
 copy-requires-2 c = let w = c.wide-kept.ensures.0 in

@@ -38,34 +38,28 @@ returns-in-Refused c = let a = c.args in
 
 pub running-requires : goal.running-requires
 running-requires c =
-    let held : Held =
-      let w = c.read.new in held_of w.from w.kept w.tokens in
-    let IsLive : Type 0 =
-      LiveMarking c.args.t.now c.args.b.now held in
-    let marking-held : IsLive =
-      let t = c.args.t.now in
-      let b = c.args.b.now in
-      let r = c.read in
-      let w = r.new in
-      let n = lengths_up w.from w.kept w.tokens (omega (arith, r.auto)) (omega (arith, r.auto)) (omega (arith, r.auto)) in
-      live_up t b w.from w.kept w.tokens r.result r.ensures (read-good t c.requires) n c.in-Live.is in
-    (read-spans c.args.t.now c.requires, omega (arith, nodes_most c.args.t.now c.requires, (marking-held).lengths.kept-long))
+    let held : Held = let w = c.read.new in held_of w.from w.kept w.tokens in
+    let IsLive : Type 0 = LiveMarking c.args.t.now c.args.b.now held in
+    let marking-held : IsLive = let t = c.args.t.now in
+    let b = c.args.b.now in
+    let r = c.read in
+    let w = r.new in
+    let n = lengths_up w.from w.kept w.tokens (omega (arith, r.auto)) (omega (arith, r.auto)) (omega (arith, r.auto)) in
+    live_up t b w.from w.kept w.tokens r.result r.ensures (read-good t c.requires) n c.in-Live.is in
+    (read-spans c.args.t.now c.requires, omega (arith, nodes_most c.args.t.now c.requires, marking-held.lengths.kept-long))
 
 pub returns-in-Refused-running : goal.returns-in-Refused-running
 returns-in-Refused-running c =
-    let held : Held =
-      let w = c.read.new in held_of w.from w.kept w.tokens in
-    let IsLive : Type 0 =
-      LiveMarking c.args.t.now c.args.b.now held in
-    let marking-held : IsLive =
-      let t = c.args.t.now in
-      let b = c.args.b.now in
-      let r = c.read in
-      let w = r.new in
-      let n = lengths_up w.from w.kept w.tokens (omega (arith, r.auto)) (omega (arith, r.auto)) (omega (arith, r.auto)) in
-      live_up t b w.from w.kept w.tokens r.result r.ensures (read-good t c.requires) n c.in-Live.is in
+    let held : Held = let w = c.read.new in held_of w.from w.kept w.tokens in
+    let IsLive : Type 0 = LiveMarking c.args.t.now c.args.b.now held in
+    let marking-held : IsLive = let t = c.args.t.now in
+    let b = c.args.b.now in
+    let r = c.read in
+    let w = r.new in
+    let n = lengths_up w.from w.kept w.tokens (omega (arith, r.auto)) (omega (arith, r.auto)) (omega (arith, r.auto)) in
+    live_up t b w.from w.kept w.tokens r.result r.ensures (read-good t c.requires) n c.in-Live.is in
     let answered : (l : IsLive) → said c.running.result ≡ need 14 (runs_in c.args.t.now l.current c.wide-a.result) =
-      λ l. c.running.ensures l.current l.held.running in
+    λ l. c.running.ensures l.current l.held.running in
     let a = c.args in
     let l = marking-held in
     let q = sym (ap said c.in-Refused-running.is) ∙ answered l in
@@ -77,21 +71,18 @@ returns-in-Refused-running c =
 
 pub conclude-requires : goal.conclude-requires
 conclude-requires c =
-    let held : Held =
-      let w = c.read.new in held_of w.from w.kept w.tokens in
-    let IsLive : Type 0 =
-      LiveMarking c.args.t.now c.args.b.now held in
-    let marking-held : IsLive =
-      let t = c.args.t.now in
-      let b = c.args.b.now in
-      let r = c.read in
-      let w = r.new in
-      let n = lengths_up w.from w.kept w.tokens (omega (arith, r.auto)) (omega (arith, r.auto)) (omega (arith, r.auto)) in
-      live_up t b w.from w.kept w.tokens r.result r.ensures (read-good t c.requires) n c.in-Live.is in
+    let held : Held = let w = c.read.new in held_of w.from w.kept w.tokens in
+    let IsLive : Type 0 = LiveMarking c.args.t.now c.args.b.now held in
+    let marking-held : IsLive = let t = c.args.t.now in
+    let b = c.args.b.now in
+    let r = c.read in
+    let w = r.new in
+    let n = lengths_up w.from w.kept w.tokens (omega (arith, r.auto)) (omega (arith, r.auto)) (omega (arith, r.auto)) in
+    live_up t b w.from w.kept w.tokens r.result r.ensures (read-good t c.requires) n c.in-Live.is in
     let answered : (l : IsLive) → said c.running.result ≡ need 14 (runs_in c.args.t.now l.current c.wide-a.result) =
-      λ l. c.running.ensures l.current l.held.running in
+    λ l. c.running.ensures l.current l.held.running in
     let runs : (l : IsLive) → runs_in c.args.t.now l.current c.wide-a.result ≡ true =
-      λ l. need-passed 14 (runs_in c.args.t.now l.current c.wide-a.result) (sym (ap said c.in_default.is) ∙ answered l) in
+    λ l. need-passed 14 (runs_in c.args.t.now l.current c.wide-a.result) (sym (ap said c.in_default.is) ∙ answered l) in
     let t = c.args.t.now in
     let l = marking-held in
     let n = running-node t l.current c.wide-a.result (runs l) in
@@ -99,21 +90,18 @@ conclude-requires c =
 
 pub returns : goal.returns
 returns c =
-    let held : Held =
-      let w = c.read.new in held_of w.from w.kept w.tokens in
-    let IsLive : Type 0 =
-      LiveMarking c.args.t.now c.args.b.now held in
-    let marking-held : IsLive =
-      let t = c.args.t.now in
-      let b = c.args.b.now in
-      let r = c.read in
-      let w = r.new in
-      let n = lengths_up w.from w.kept w.tokens (omega (arith, r.auto)) (omega (arith, r.auto)) (omega (arith, r.auto)) in
-      live_up t b w.from w.kept w.tokens r.result r.ensures (read-good t c.requires) n c.in-Live.is in
+    let held : Held = let w = c.read.new in held_of w.from w.kept w.tokens in
+    let IsLive : Type 0 = LiveMarking c.args.t.now c.args.b.now held in
+    let marking-held : IsLive = let t = c.args.t.now in
+    let b = c.args.b.now in
+    let r = c.read in
+    let w = r.new in
+    let n = lengths_up w.from w.kept w.tokens (omega (arith, r.auto)) (omega (arith, r.auto)) (omega (arith, r.auto)) in
+    live_up t b w.from w.kept w.tokens r.result r.ensures (read-good t c.requires) n c.in-Live.is in
     let answered : (l : IsLive) → said c.running.result ≡ need 14 (runs_in c.args.t.now l.current c.wide-a.result) =
-      λ l. c.running.ensures l.current l.held.running in
+    λ l. c.running.ensures l.current l.held.running in
     let runs : (l : IsLive) → runs_in c.args.t.now l.current c.wide-a.result ≡ true =
-      λ l. need-passed 14 (runs_in c.args.t.now l.current c.wide-a.result) (sym (ap said c.in_default.is) ∙ answered l) in
+    λ l. need-passed 14 (runs_in c.args.t.now l.current c.wide-a.result) (sym (ap said c.in_default.is) ∙ answered l) in
     let a = c.args in
     let l = marking-held in
     let d = c.conclude in

@@ -19,22 +19,18 @@ returns-then-kind-ne-ACTION c = let a = c.args in
 
 pub returns-then-kept-a-ne1 : goal.returns-then-kept-a-ne1
 returns-then-kept-a-ne1 c =
-    let is-node : c.args.a < nodes c.args.t.now =
-      omega (arith, c.requires.0.nodes-read, c.if-a-table.false) in
-    let is-action : kind_of c.args.t.now c.args.a ≡ 2 =
-      sym c.kind.ensures.0 ∙ c.if-kind-ne-ACTION.false in
+    let is-node : c.args.a < nodes c.args.t.now = omega (arith, c.requires.0.nodes-read, c.if-a-table.false) in
+    let is-action : kind_of c.args.t.now c.args.a ≡ 2 = sym c.kind.ensures.0 ∙ c.if-kind-ne-ACTION.false in
     let a = c.args in
     let r = at a.kept.now a.a in
-    λ m n. sym (ap (need 14) (runs_as a.t.now m a.a r (is-node) (is-action) (n a.a (is-node) (ap is_action (is-action)))
+    λ m n. sym (ap (need 14) (runs_as a.t.now m a.a r is-node is-action (n a.a is-node (ap is_action is-action))
     ∙ ne_eqb r 1 c.if-kept-a-ne1.true))
 
 pub returns : goal.returns
 returns c =
-    let is-node : c.args.a < nodes c.args.t.now =
-      omega (arith, c.requires.0.nodes-read, c.if-a-table.false) in
-    let is-action : kind_of c.args.t.now c.args.a ≡ 2 =
-      sym c.kind.ensures.0 ∙ c.if-kind-ne-ACTION.false in
+    let is-node : c.args.a < nodes c.args.t.now = omega (arith, c.requires.0.nodes-read, c.if-a-table.false) in
+    let is-action : kind_of c.args.t.now c.args.a ≡ 2 = sym c.kind.ensures.0 ∙ c.if-kind-ne-ACTION.false in
     let a = c.args in
     let r = at a.kept.now a.a in
-    λ m n. sym (ap (need 14) (runs_as a.t.now m a.a r (is-node) (is-action) (n a.a (is-node) (ap is_action (is-action)))
+    λ m n. sym (ap (need 14) (runs_as a.t.now m a.a r is-node is-action (n a.a is-node (ap is_action is-action))
     ∙ eq-eqb r 1 c.if-kept-a-ne1.false))

@@ -1,6 +1,5 @@
 -- `is_first`: in the word, and made from none. Assumes nothing.
 use mathlib.Core.Path.{sym, ◌∙◌}
-use borrow.Author.Tests.{not-true, not-false}
 use Rattle.step_spend.proofs.is_first.Goals as goal
 
 pub returns-then-not-in_word : goal.returns-then-not-in_word

@@ -1,7 +1,6 @@
 -- `losing_nodes`: one edge after the other. The invariant: the marks are those of the edges passed. Assumes nothing.
 use mathlib.Core.Path.{refl}
 use mathlib.Core.Bool.{false}
-use Prim.Native.Nat.{◌-◌}
 use native.Mathlib.Omega.{arith}
 use Rattle.paper.specs.Limits.{limits}
 use Rattle.paper.specs.Table.{edges, source}
@@ -16,11 +15,11 @@ loop-e-init c = (omega arith, refl, λ p m. record { tell = λ a l. blank limits
 
 pub loop-e-preserved : goal.loop-e-preserved
 loop-e-preserved c = let l = c.loop-e in (
-      omega arith,
-      omega (arith, c.mark.auto, l.invariant.1),
-      λ p m. pass_more (λ a. false) p (source c.args.t.now) _ l.e (omega (arith, l.invariant.1)) c.mark.ensures
-          (mark_test m l.e (omega (arith, c.requires.0.edges-read, c.requires.0.few-edges))) c.source.ensures.0 (l.invariant.2 p m),
-    )
+  omega arith,
+  omega (arith, c.mark.auto, l.invariant.1),
+  λ p m. pass_more (λ a. false) p (source c.args.t.now) _ l.e (omega (arith, l.invariant.1)) c.mark.ensures
+      (mark_test m l.e (omega (arith, c.requires.0.edges-read, c.requires.0.few-edges))) c.source.ensures.0 (l.invariant.2 p m),
+)
 
 pub returns : goal.returns
 returns c = let t = c.args.t.now in

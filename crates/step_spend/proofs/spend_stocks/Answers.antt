@@ -1,5 +1,5 @@
 -- `spend_stocks`: one node after the other. Assumes nothing.
-use Prim.Native.Nat.{◌-◌, ◌<◌}
+use Prim.Native.Nat.{◌<◌}
 use mathlib.Core.Path.{◌≡◌}
 use native.Mathlib.Omega.{arith}
 use lib.ListN.{length}
@@ -30,12 +30,11 @@ bounds-kept-i-in-loop-i-2 c = omega (arith, c.loop-i.invariant.1.kepts.long, c.r
 pub loop-i-preserved : goal.loop-i-preserved
 loop-i-preserved c =
     let in_from : c.loop-i.i < length c.loop-i.from =
-      omega (arith, c.loop-i.invariant.1.froms.long, c.requires.2, c.loop-i-test.true) in
+    omega (arith, c.loop-i.invariant.1.froms.long, c.requires.2, c.loop-i-test.true) in
     let in_kept : c.loop-i.i < length c.loop-i.kept =
-      omega (arith, c.loop-i.invariant.1.kepts.long, c.requires.3, c.loop-i-test.true) in
-    (
+    omega (arith, c.loop-i.invariant.1.kepts.long, c.requires.3, c.loop-i-test.true) in (
       omega arith,
-      oldest-next c.loop-i.invariant.1 (in_from) (in_kept) c.from_left.result c.kept_left.result c.from_left.ensures
+      oldest-next c.loop-i.invariant.1 in_from in_kept c.from_left.result c.kept_left.result c.from_left.ensures
           c.kept_left.ensures,
     )
 

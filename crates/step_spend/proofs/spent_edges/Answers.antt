@@ -1,7 +1,6 @@
 -- `spent_edges`: one row after the other. The invariant: the marks are those of the rows passed. Assumes nothing.
 use mathlib.Core.Path.{refl}
 use mathlib.Core.Bool.{false, ◌&&◌}
-use Prim.Native.Nat.{◌-◌}
 use native.Mathlib.Omega.{arith}
 use lib.Dec.{eqb}
 use Rattle.paper.specs.Lists.{at, has}

@@ -1,7 +1,6 @@
 -- `edge_end` reads an edge's count, if it has one. Assumes nothing.
 use mathlib.Core.Path.{sym, ◌∙◌}
 use native.Mathlib.Omega.{arith}
-use borrow.Author.Tests.{not-true, not-false}
 use Rattle.marking.proofs.Laws.{uncounted_reads, counted_reads, counted_none}
 use Rattle.marking.proofs.reading.edge_end.Goals as goal
 

@@ -1,5 +1,4 @@
 -- `edges_end` reads the counts in order and takes up each. Assumes nothing.
-use Prim.Native.Nat.{◌-◌}
 use mathlib.Core.Path.{◌≡◌, ◌∙◌}
 use mathlib.Core.Bool.{false}
 use mathlib.Core.Option.{none}
@@ -29,17 +28,16 @@ returns-in-Bad c = let t = c.args.t.now in
 pub first_of-requires : goal.first_of-requires
 first_of-requires c =
     let went : (m : Marking) → Reads (At c.in-At.q) (fields_read c.args.t.now (edge_fields c.args.t.now c.loop-j.j) m (drop c.loop-j.place c.args.b.now)) c.args.b.now =
-      λ m. let r : c.edge_end.result ≡ At c.in-At.q = c.in-At.is in
-      rw r at (c.edge_end.ensures m) in
+    λ m. let r : c.edge_end.result ≡ At c.in-At.q = c.in-At.is in
+    rw r at (c.edge_end.ensures m) in
     (went (blank false)).2
 
 pub loop-j-preserved : goal.loop-j-preserved
 loop-j-preserved c =
     let went : (m : Marking) → Reads (At c.in-At.q) (fields_read c.args.t.now (edge_fields c.args.t.now c.loop-j.j) m (drop c.loop-j.place c.args.b.now)) c.args.b.now =
-      λ m. let r : c.edge_end.result ≡ At c.in-At.q = c.in-At.is in
-      rw r at (c.edge_end.ensures m) in
-    let bytes : Bytes c.args.b.now =
-      λ k. (c.type_inv.b k).fits in
+    λ m. let r : c.edge_end.result ≡ At c.in-At.q = c.in-At.is in
+    rw r at (c.edge_end.ensures m) in
+    let bytes : Bytes c.args.b.now = λ k. (c.type_inv.b k).fits in
     let a = c.args in
     let q = c.in-At.q in
     let s = c.loop-j in
@@ -47,7 +45,7 @@ loop-j-preserved c =
       omega arith,
       lq,
       length-set s.tokens s.j _ ∙ s.invariant.2,
-      λ z. edge-step a.t.now a.b.now s.tokens s.place q s.j c.first_of.result (bytes) (omega arith) s.invariant.1 lq c.first_of.ensures z a.start (s.invariant.3 z) (went),
+      λ z. edge-step a.t.now a.b.now s.tokens s.place q s.j c.first_of.result bytes (omega arith) s.invariant.1 lq c.first_of.ensures z a.start (s.invariant.3 z) went,
     )
 
 pub returns : goal.returns

@@ -1,5 +1,5 @@
 -- `nodes_end` reads the nodes' fields in order and takes up each. The invariant: those passed are read, and take at most 65 bytes each. Assumes nothing.
-use Prim.Native.Nat.{◌<◌, ◌-◌}
+use Prim.Native.Nat.{◌<◌}
 use mathlib.Core.Path.{◌≡◌, ◌∙◌}
 use mathlib.Core.Bool.{false}
 use mathlib.Core.Option.{none}
@@ -33,23 +33,22 @@ returns-in-Bad c = let t = c.args.t.now in
 pub overflow_cast-from : goal.overflow_cast-from
 overflow_cast-from c =
     let few : c.loop-i.i < limits.most_nodes =
-      let s = read-spans c.args.t.now c.requires.0 in omega (arith, s.few-nodes, s.nodes-read) in
+    let s = read-spans c.args.t.now c.requires.0 in omega (arith, s.few-nodes, s.nodes-read) in
     omega (arith, few)
 
 pub first_of-requires : goal.first_of-requires
 first_of-requires c =
     let went : (m : Marking) → Reads (At c.in-At.q) (fields_read c.args.t.now (node_fields c.args.t.now c.loop-i.i) m (drop c.loop-i.place c.args.b.now)) c.args.b.now =
-      λ m. let r : c.node_end.result ≡ At c.in-At.q = c.in-At.is in
-      rw r at (c.node_end.ensures m) in
+    λ m. let r : c.node_end.result ≡ At c.in-At.q = c.in-At.is in
+    rw r at (c.node_end.ensures m) in
     (went (blank false)).2
 
 pub loop-i-preserved : goal.loop-i-preserved
 loop-i-preserved c =
     let went : (m : Marking) → Reads (At c.in-At.q) (fields_read c.args.t.now (node_fields c.args.t.now c.loop-i.i) m (drop c.loop-i.place c.args.b.now)) c.args.b.now =
-      λ m. let r : c.node_end.result ≡ At c.in-At.q = c.in-At.is in
-      rw r at (c.node_end.ensures m) in
-    let bytes : Bytes c.args.b.now =
-      λ k. (c.type_inv.b k).fits in
+    λ m. let r : c.node_end.result ≡ At c.in-At.q = c.in-At.is in
+    rw r at (c.node_end.ensures m) in
+    let bytes : Bytes c.args.b.now = λ k. (c.type_inv.b k).fits in
     let t = c.args.t.now in
     let b = c.args.b.now in
     let q = c.in-At.q in
@@ -57,13 +56,13 @@ loop-i-preserved c =
     let lq = (went (blank false)).2 in
     let n = read-spans t c.requires.0 in
     let i-node : s.i < nodes t = omega arith in
-    let short = node-short t b s.place q s.i s.invariant.1 lq ((read-good t c.requires.0).node s.i i-node) (bytes) (went) in (
+    let short = node-short t b s.place q s.i s.invariant.1 lq ((read-good t c.requires.0).node s.i i-node) bytes went in (
       omega arith,
       lq,
       omega arith,
       length-set s.from s.i _ ∙ s.invariant.3,
       length-set s.kept s.i _ ∙ s.invariant.4,
-      λ e. node-step t b s.from s.kept s.place q s.i c.first_of.result (bytes) (omega arith) (omega arith) s.invariant.1 lq c.first_of.ensures e (s.invariant.5 e) (went),
+      λ e. node-step t b s.from s.kept s.place q s.i c.first_of.result bytes (omega arith) (omega arith) s.invariant.1 lq c.first_of.ensures e (s.invariant.5 e) went,
     )
 
 pub returns : goal.returns

@@ -1,10 +1,7 @@
 -- `pins_fine`: every input pin, one after the other. Assumes nothing.
-use Prim.Native.Nat.{◌-◌}
 use mathlib.Core.Path.{sym, ◌∙◌}
-use mathlib.Core.Bool.{true}
 use native.Mathlib.Omega.{arith}
 use borrow.Author.Count.{below_more}
-use borrow.Author.Tests.{not-true, not-false}
 use Rattle.paper.specs.Table.{nodes}
 use Rattle.paper.specs.Marking.{pin_fine}
 use Rattle.paper.proofs.Lists.{below_all, all_fails}

@@ -13,20 +13,17 @@ returns-then-not-head_fine c = let a = c.args in
 
 pub walk-walked-requires : goal.walk-walked-requires
 walk-walked-requires c =
-    let head_read : Head c.args.b.now =
-      c.head_fine.ensures.0 c.if-not-head_fine.false in
+    let head_read : Head c.args.b.now = c.head_fine.ensures.0 c.if-not-head_fine.false in
     let h = c.requires in
-    (h.0, (head_read).long, h.1, h.2, h.3)
+    (h.0, head_read.long, h.1, h.2, h.3)
 
 pub judged-requires : goal.judged-requires
 judged-requires c =
-    let head_read : Head c.args.b.now =
-      c.head_fine.ensures.0 c.if-not-head_fine.false in
+    let head_read : Head c.args.b.now = c.head_fine.ensures.0 c.if-not-head_fine.false in
     let h = c.requires in
-    (h.0, (head_read).long, omega (arith, c.walk-walked.auto), omega (arith, c.walk-walked.auto))
+    (h.0, head_read.long, omega (arith, c.walk-walked.auto), omega (arith, c.walk-walked.auto))
 
 pub returns : goal.returns
 returns c =
-    let head_read : Head c.args.b.now =
-      c.head_fine.ensures.0 c.if-not-head_fine.false in
-    c.judged.ensures c.walk-walked.new.from (c.walk-walked.ensures (head_read))
+    let head_read : Head c.args.b.now = c.head_fine.ensures.0 c.if-not-head_fine.false in
+    c.judged.ensures c.walk-walked.new.from (c.walk-walked.ensures head_read)

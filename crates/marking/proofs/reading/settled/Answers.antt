@@ -1,7 +1,6 @@
 -- `settled`: the pins, and an ended marking's fields. Assumes nothing.
 use Prim.Native.Nat.{ℕ}
 use mathlib.Core.Path.{sym, ap, subst, ◌∙◌}
-use borrow.Author.Tests.{not-true, not-false}
 use Rattle.paper.specs.Lists.{all, below}
 use Rattle.table.proofs.Reading.{read-spans}
 use Rattle.marking.specs.Reading.{EdgesRead, edge_clear}

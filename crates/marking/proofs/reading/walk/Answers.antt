@@ -15,44 +15,38 @@ use Rattle.marking.proofs.reading.walk.Goals as goal
 
 pub returns-in-Bad : goal.returns-in-Bad
 returns-in-Bad c =
-    let Nodes-say : Bool → Next → Type 0 =
-      λ e r. let a = c.args in
-      let t = a.t.now in
-      let w = c.nodes_end.new in
-      ReadsInto (λ m. NodesRead t m a.b.now w.from w.kept (nodes t)) r
-      (fields_read t (gather (node_fields t) (below (nodes t))) (blank e) (drop 4 a.b.now)) a.b.now in
+    let Nodes-say : Bool → Next → Type 0 = λ e r. let a = c.args in
+    let t = a.t.now in
+    let w = c.nodes_end.new in
+    ReadsInto (λ m. NodesRead t m a.b.now w.from w.kept (nodes t)) r
+    (fields_read t (gather (node_fields t) (below (nodes t))) (blank e) (drop 4 a.b.now)) a.b.now in
     let a = c.args in
     let e = eqb (at a.b.now 3) 1 in
     λ h. nodes-none a.t.now a.b.now h (subst (Nodes-say e) c.in-Bad.is (c.nodes_end.ensures e))
 
 pub edges_end-requires : goal.edges_end-requires
 edges_end-requires c =
-    let Nodes-say : Bool → Next → Type 0 =
-      λ e r. let a = c.args in
-      let t = a.t.now in
-      let w = c.nodes_end.new in
-      ReadsInto (λ m. NodesRead t m a.b.now w.from w.kept (nodes t)) r
-      (fields_read t (gather (node_fields t) (below (nodes t))) (blank e) (drop 4 a.b.now)) a.b.now in
-    let nodes-good : (e : Bool) → Nodes-say e (At c.in-At.q) =
-      λ e. subst (Nodes-say e) c.in-At.is (c.nodes_end.ensures e) in
+    let Nodes-say : Bool → Next → Type 0 = λ e r. let a = c.args in
+    let t = a.t.now in
+    let w = c.nodes_end.new in
+    ReadsInto (λ m. NodesRead t m a.b.now w.from w.kept (nodes t)) r
+    (fields_read t (gather (node_fields t) (below (nodes t))) (blank e) (drop 4 a.b.now)) a.b.now in
+    let nodes-good : (e : Bool) → Nodes-say e (At c.in-At.q) = λ e. subst (Nodes-say e) c.in-At.is (c.nodes_end.ensures e) in
     let h = c.requires in
     (h.0, (nodes-good false).2, h.4)
 
 pub returns-in-Bad-edges_end : goal.returns-in-Bad-edges_end
 returns-in-Bad-edges_end c =
-    let Nodes-say : Bool → Next → Type 0 =
-      λ e r. let a = c.args in
-      let t = a.t.now in
-      let w = c.nodes_end.new in
-      ReadsInto (λ m. NodesRead t m a.b.now w.from w.kept (nodes t)) r
-      (fields_read t (gather (node_fields t) (below (nodes t))) (blank e) (drop 4 a.b.now)) a.b.now in
-    let Edges-say : Marking → Next → Type 0 =
-      λ m r. let a = c.args in
-      let t = a.t.now in
-      ReadsInto (λ m. EdgesRead t m c.edges_end.new.tokens (edges t)) r
-      (fields_read t (gather (edge_fields t) (below (edges t))) m (drop c.in-At.q a.b.now)) a.b.now in
-    let nodes-good : (e : Bool) → Nodes-say e (At c.in-At.q) =
-      λ e. subst (Nodes-say e) c.in-At.is (c.nodes_end.ensures e) in
+    let Nodes-say : Bool → Next → Type 0 = λ e r. let a = c.args in
+    let t = a.t.now in
+    let w = c.nodes_end.new in
+    ReadsInto (λ m. NodesRead t m a.b.now w.from w.kept (nodes t)) r
+    (fields_read t (gather (node_fields t) (below (nodes t))) (blank e) (drop 4 a.b.now)) a.b.now in
+    let Edges-say : Marking → Next → Type 0 = λ m r. let a = c.args in
+    let t = a.t.now in
+    ReadsInto (λ m. EdgesRead t m c.edges_end.new.tokens (edges t)) r
+    (fields_read t (gather (edge_fields t) (below (edges t))) m (drop c.in-At.q a.b.now)) a.b.now in
+    let nodes-good : (e : Bool) → Nodes-say e (At c.in-At.q) = λ e. subst (Nodes-say e) c.in-At.is (c.nodes_end.ensures e) in
     let a = c.args in
     let q = c.in-At.q in
     λ h. let z = nodes-good (eqb (at a.b.now 3) 1) in
@@ -60,19 +54,16 @@ returns-in-Bad-edges_end c =
 
 pub returns : goal.returns
 returns c =
-    let Nodes-say : Bool → Next → Type 0 =
-      λ e r. let a = c.args in
-      let t = a.t.now in
-      let w = c.nodes_end.new in
-      ReadsInto (λ m. NodesRead t m a.b.now w.from w.kept (nodes t)) r
-      (fields_read t (gather (node_fields t) (below (nodes t))) (blank e) (drop 4 a.b.now)) a.b.now in
-    let Edges-say : Marking → Next → Type 0 =
-      λ m r. let a = c.args in
-      let t = a.t.now in
-      ReadsInto (λ m. EdgesRead t m c.edges_end.new.tokens (edges t)) r
-      (fields_read t (gather (edge_fields t) (below (edges t))) m (drop c.in-At.q a.b.now)) a.b.now in
-    let nodes-good : (e : Bool) → Nodes-say e (At c.in-At.q) =
-      λ e. subst (Nodes-say e) c.in-At.is (c.nodes_end.ensures e) in
+    let Nodes-say : Bool → Next → Type 0 = λ e r. let a = c.args in
+    let t = a.t.now in
+    let w = c.nodes_end.new in
+    ReadsInto (λ m. NodesRead t m a.b.now w.from w.kept (nodes t)) r
+    (fields_read t (gather (node_fields t) (below (nodes t))) (blank e) (drop 4 a.b.now)) a.b.now in
+    let Edges-say : Marking → Next → Type 0 = λ m r. let a = c.args in
+    let t = a.t.now in
+    ReadsInto (λ m. EdgesRead t m c.edges_end.new.tokens (edges t)) r
+    (fields_read t (gather (edge_fields t) (below (edges t))) m (drop c.in-At.q a.b.now)) a.b.now in
+    let nodes-good : (e : Bool) → Nodes-say e (At c.in-At.q) = λ e. subst (Nodes-say e) c.in-At.is (c.nodes_end.ensures e) in
     let a = c.args in
     let b = a.b.now in
     let q = c.in-At.q in

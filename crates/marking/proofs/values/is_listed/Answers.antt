@@ -3,7 +3,7 @@ use mathlib.Core.Path.{◌≡◌, sym, ap, ◌∙◌}
 use mathlib.Core.Bool.{false}
 use borrow.Author.Tests.{eq-eqb, ne_eqb}
 use lib.Dec.{eqb}
-use Rattle.paper.specs.Table.{kind, owner}
+use Rattle.paper.specs.Table.{kind}
 use Rattle.marking.proofs.values.is_listed.Goals as goal
 
 pub returns-then-kind : goal.returns-then-kind

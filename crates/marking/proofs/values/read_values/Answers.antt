@@ -1,6 +1,6 @@
 -- `read_values` reads a list for each node listed, in order, and leaves nothing over. The invariant: the lists passed are read, and take at most 65
 -- bytes each. Assumes nothing.
-use Prim.Native.Nat.{◌+◌, ◌≤◌, ◌<◌, ◌-◌}
+use Prim.Native.Nat.{◌+◌, ◌≤◌, ◌<◌}
 use mathlib.Core.Path.{refl, ◌∙◌, ◌≡◌}
 use native.Mathlib.Omega.{arith}
 use lib.ListN.{drop, length-set}
@@ -29,34 +29,31 @@ returns-in-Bad c = let a = c.args in
 pub overflow_sub-values : goal.overflow_sub-values
 overflow_sub-values c =
     let went : Reads (At c.in-At.q) (each_read (λ n. values_read limits.most_upper) (listed_at c.args.t.now c.args.kind c.args.owner c.loop-i.i) (drop c.loop-i.from c.args.b.now)) c.args.b.now =
-      let r : c.list_end.result ≡ At c.in-At.q = c.in-At.is in rw r at c.list_end.ensures in
-    let bytes : Bytes c.args.b.now =
-      λ k. (c.type_inv.b k).fits in
+    let r : c.list_end.result ≡ At c.in-At.q = c.in-At.is in rw r at c.list_end.ensures in
+    let bytes : Bytes c.args.b.now = λ k. (c.type_inv.b k).fits in
     let spans : (c.loop-i.from ≤ c.in-At.q) × (c.in-At.q ≤ c.loop-i.from + 65) =
-      let s = c.loop-i in list-spans c.args.t.now c.args.kind c.args.owner c.args.b.now s.i s.from c.in-At.q s.invariant.1 went bytes in
-    omega (arith, (spans).0)
+    let s = c.loop-i in list-spans c.args.t.now c.args.kind c.args.owner c.args.b.now s.i s.from c.in-At.q s.invariant.1 went bytes in
+    omega (arith, spans.0)
 
 pub overflow_mul-place : goal.overflow_mul-place
 overflow_mul-place c =
     let went : Reads (At c.in-At.q) (each_read (λ n. values_read limits.most_upper) (listed_at c.args.t.now c.args.kind c.args.owner c.loop-i.i) (drop c.loop-i.from c.args.b.now)) c.args.b.now =
-      let r : c.list_end.result ≡ At c.in-At.q = c.in-At.is in rw r at c.list_end.ensures in
-    let bytes : Bytes c.args.b.now =
-      λ k. (c.type_inv.b k).fits in
+    let r : c.list_end.result ≡ At c.in-At.q = c.in-At.is in rw r at c.list_end.ensures in
+    let bytes : Bytes c.args.b.now = λ k. (c.type_inv.b k).fits in
     let spans : (c.loop-i.from ≤ c.in-At.q) × (c.in-At.q ≤ c.loop-i.from + 65) =
-      let s = c.loop-i in list-spans c.args.t.now c.args.kind c.args.owner c.args.b.now s.i s.from c.in-At.q s.invariant.1 went bytes in
+    let s = c.loop-i in list-spans c.args.t.now c.args.kind c.args.owner c.args.b.now s.i s.from c.in-At.q s.invariant.1 went bytes in
     omega (arith, spans)
 
 pub overflow_cast-place : goal.overflow_cast-place
 overflow_cast-place c =
     let went : Reads (At c.in-At.q) (each_read (λ n. values_read limits.most_upper) (listed_at c.args.t.now c.args.kind c.args.owner c.loop-i.i) (drop c.loop-i.from c.args.b.now)) c.args.b.now =
-      let r : c.list_end.result ≡ At c.in-At.q = c.in-At.is in rw r at c.list_end.ensures in
-    let bytes : Bytes c.args.b.now =
-      λ k. (c.type_inv.b k).fits in
+    let r : c.list_end.result ≡ At c.in-At.q = c.in-At.is in rw r at c.list_end.ensures in
+    let bytes : Bytes c.args.b.now = λ k. (c.type_inv.b k).fits in
     let spans : (c.loop-i.from ≤ c.in-At.q) × (c.in-At.q ≤ c.loop-i.from + 65) =
-      let s = c.loop-i in list-spans c.args.t.now c.args.kind c.args.owner c.args.b.now s.i s.from c.in-At.q s.invariant.1 went bytes in
+    let s = c.loop-i in list-spans c.args.t.now c.args.kind c.args.owner c.args.b.now s.i s.from c.in-At.q s.invariant.1 went bytes in
     let few : c.loop-i.i < limits.most_nodes =
-      omega (arith, c.requires.0.few-nodes, c.requires.0.nodes-read) in
-    omega (arith, (spans).1, few)
+    omega (arith, c.requires.0.few-nodes, c.requires.0.nodes-read) in
+    omega (arith, spans.1, few)
 
 pub overflow_cast-more : goal.overflow_cast-more
 overflow_cast-more c = omega arith
@@ -67,19 +64,18 @@ loop-i-smaller c = omega arith
 pub loop-i-preserved : goal.loop-i-preserved
 loop-i-preserved c =
     let went : Reads (At c.in-At.q) (each_read (λ n. values_read limits.most_upper) (listed_at c.args.t.now c.args.kind c.args.owner c.loop-i.i) (drop c.loop-i.from c.args.b.now)) c.args.b.now =
-      let r : c.list_end.result ≡ At c.in-At.q = c.in-At.is in rw r at c.list_end.ensures in
-    let bytes : Bytes c.args.b.now =
-      λ k. (c.type_inv.b k).fits in
+    let r : c.list_end.result ≡ At c.in-At.q = c.in-At.is in rw r at c.list_end.ensures in
+    let bytes : Bytes c.args.b.now = λ k. (c.type_inv.b k).fits in
     let spans : (c.loop-i.from ≤ c.in-At.q) × (c.in-At.q ≤ c.loop-i.from + 65) =
-      let s = c.loop-i in list-spans c.args.t.now c.args.kind c.args.owner c.args.b.now s.i s.from c.in-At.q s.invariant.1 went bytes in
+    let s = c.loop-i in list-spans c.args.t.now c.args.kind c.args.owner c.args.b.now s.i s.from c.in-At.q s.invariant.1 went bytes in
     let a = c.args in
     let s = c.loop-i in (
       omega arith,
-      (went).2,
-      omega (arith, (spans).1),
+      went.2,
+      omega (arith, spans.1),
       length-set s.place s.i _ ∙ s.invariant.3,
       length-set s.more s.i _ ∙ s.invariant.4,
-      lists-step a.t.now a.kind a.owner a.b.now s.place s.more s.from c.in-At.q s.i (bytes) s.invariant.1 (omega arith) (omega arith) s.invariant.5 (went),
+      lists-step a.t.now a.kind a.owner a.b.now s.place s.more s.from c.in-At.q s.i bytes s.invariant.1 (omega arith) (omega arith) s.invariant.5 went,
     )
 
 pub returns-then-from-b : goal.returns-then-from-b
