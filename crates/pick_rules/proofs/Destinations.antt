@@ -10,7 +10,7 @@ use native.Mathlib.Omega.{arith}
 use lib.Bits.{bit_or}
 use lib.Dec.{leb, ltb, eqb}
 use borrow.Author.Tests.{eqb-true, ltb-true, lt-ltb, leb-true, leb-false, le-leb, not-true}
-use Rattle.paper.specs.Lists.{at, has, below, all, any, count, lowest, ◌⇒◌}
+use Rattle.paper.specs.Lists.{at, has, below, all, any, count, lowest}
 use Rattle.paper.specs.Table.{nodes, edges, kind, owner, lower, upper, is_action, is_input, is_buffer, is_outgoing, target as targetOfEdge}
 use Rattle.paper.proofs.Bools.{never, and-true, and_both, and_never, iff, if_true, true_or_false, false_if}
 use Rattle.paper.proofs.Counts.{any-below-none}

@@ -12,7 +12,7 @@ use lib.Pow.{pow-lt}
 use lib.Seq.{get_or-set_same, get_or-set_other}
 use borrow.Author.Tests.{eq-eqb, ne_eqb, lt-ltb, le-ltb, leb-true, le-leb, eqb-true}
 use Rattle.paper.specs.Lists.{at, has, below, any, within, ◌⇒◌}
-use Rattle.paper.specs.Table.{nodes, edges, kind, owner, lower, upper, target as targetOfEdge, is_action, is_buffer, is_outgoing}
+use Rattle.paper.specs.Table.{nodes, kind, owner, lower, upper, target as targetOfEdge, is_action, is_buffer, is_outgoing}
 use Rattle.paper.proofs.Bools.{and-true, and_both, and_never, iff}
 use Rattle.paper.proofs.Bits.{has_pow, meet_has, has_meet}
 use Rattle.paper.proofs.Counts.{any-below-none}

@@ -1,9 +1,8 @@
 -- Rules 1 to 3 on choices as a net of rules over sets of ends: what each row of it says, in the words of ends_masks. Assumes nothing.
-use Rattle.std.specs.Prelude.{◌≡◌, ℕ, ◌+◌, ◌*◌, ◌-◌, ◌≤◌, ◌<◌, Bool, true, not, ◌&&◌, ◌||◌, List, [], ◌∷◌, leb, ltb, eqb, length}
+use Rattle.std.specs.Prelude.{◌≡◌, ℕ, ◌+◌, ◌*◌, ◌-◌, ◌≤◌, ◌<◌, Bool, true, not, ◌&&◌, ◌||◌, List, [], ◌∷◌, leb, ltb, eqb}
 use Rattle.paper.specs.Lists.{at, has, from, below, all, any, within, ◌⇒◌}
 use Rattle.paper.specs.Table.{nodes, edges, kind, owner, lower, upper, target as targetOfEdge, is_action, is_input, is_fork, is_buffer, is_outgoing}
 use Rattle.paper.specs.Limits.{limits}
-use Rattle.table.specs.declared.Table.{Table}
 use Rattle.pick_bounds.specs.Net.{meets, obeys, rivals_at, rule_at}
 use Rattle.ends_masks.specs.Seating.{rivalled, kept, seats, served}
 

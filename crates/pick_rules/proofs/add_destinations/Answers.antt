@@ -1,5 +1,5 @@
 -- `pick_rules::add_destinations` meets its contract: the masks are filled, a word for each edge and node, and the rows of rule 3 come one after the other. Assumes nothing.
-use mathlib.Core.Path.{◌∙◌, sym}
+use mathlib.Core.Path.{sym}
 use native.Mathlib.Nat.{le_trans, le_of_eq}
 use native.Mathlib.Omega.{arith}
 use Rattle.paper.specs.Limits.{limits}
@@ -37,21 +37,6 @@ slice_bounds-add_targets-end c = sym c.requires.3.targets-full
 pub slice_bounds-add_targets-end-4 : goal.slice_bounds-add_targets-end-4
 slice_bounds-add_targets-end-4 c = sym c.requires.4
 
-pub add_targets-targets-requires : goal.add_targets-targets-requires
-add_targets-targets-requires c =
-    let p = c.requires in
-    let e = p.3 in
-    let f = c.add_edges-edges in (
-      omega (arith, p.0, e.few, f.ensures.0),
-      le_trans p.1 (le_of_eq (sym f.auto.0)),
-      p.2,
-      omega (arith, e.few, e.targets-full),
-      e.few,
-      omega (arith, nodes_most _ p.2, c.fill_masks-2.auto),
-      omega (arith, nodes_most _ p.2, c.fill_masks-3.auto),
-      omega (arith, nodes_most _ p.2, p.4),
-    )
-
 pub slice_bounds-barred-end : goal.slice_bounds-barred-end
 slice_bounds-barred-end c = omega (arith, c.fill_masks.auto)
 
@@ -68,26 +53,31 @@ barred-barred-requires c =
       omega (arith, nodes_most _ p.2, p.4),
     )
 
-pub add-requires : goal.add-requires
-add-requires c =
+pub add_targets-targets-requires : goal.add_targets-targets-requires
+add_targets-targets-requires c =
     let p = c.requires in
-    let e = c.add_edges-edges in
-    let f = c.add_targets-targets in
-    (omega (arith, p.0, p.3.few, e.ensures.0, f.ensures.0), le_trans p.1 (le_of_eq (sym (f.kept.0 ∙ e.kept.0))))
-
-pub shape_of-net : goal.shape_of-net
-shape_of-net c = c.add.auto.0 ∙ c.add_targets-targets.auto.0 ∙ c.add_edges-edges.auto.0
+    let e = p.3 in
+    let f = c.add_edges-edges in (
+      omega (arith, p.0, e.few, f.ensures.0),
+      le_trans p.1 (le_of_eq (sym f.auto.net)),
+      p.2,
+      omega (arith, e.few, e.targets-full),
+      e.few,
+      omega (arith, nodes_most _ p.2, c.fill_masks-2.auto),
+      omega (arith, nodes_most _ p.2, c.fill_masks-3.auto),
+      omega (arith, nodes_most _ p.2, p.4),
+    )
 
 pub returns : goal.returns
 returns c =
     let x = c.args.ends in
-    let k = c.args.t6 in
+    let k = c.args.kept in
     let p = c.requires in
     let e = c.fill_masks in
     let f = c.fill_masks-2 in
     let g = c.fill_masks-3 in
     let m =
-    masks_of {table = c.args.table} e.ensures f.ensures g.ensures (omega (arith, edges_most _ p.2, e.kept)) (omega (arith, nodes_most _ p.2, f.kept)) (omega (arith, nodes_most _ p.2, g.kept)) in
+    masks_of {table = c.args.table} e.ensures f.ensures g.ensures (omega (arith, edges_most _ p.2, e.auto)) (omega (arith, nodes_most _ p.2, f.auto)) (omega (arith, nodes_most _ p.2, g.auto)) in
     destinations_added c.args.t.now x.edge x.target x.home k k p.3.few
     (c.add_edges-edges.ensures.1 x.target x.home m) (c.add_targets-targets.ensures.1 _ x.edge x.home k m)
     (c.barred-barred.ensures x.edge x.target x.home k x.count m) (c.add.ensures x.count (omega (arith, p.3.few)))

@@ -1,6 +1,5 @@
 -- `pick_rules::add_edges` meets its contract: the rows say what they must of the edges of the ends below k. Assumes nothing.
 use mathlib.Core.Path.{◌≡◌, refl, sym}
-use Prim.Native.Nat.{◌-◌}
 use native.Mathlib.Nat.{le_trans, le_of_eq}
 use native.Mathlib.Omega.{arith}
 use borrow.Author.Rules.{rules}

@@ -31,8 +31,7 @@ add-r-requires c =
 
 pub loop-z-preserved : goal.loop-z-preserved
 loop-z-preserved c =
-    let l = c.loop-z in
-    (
+    let l = c.loop-z in (
       search rules,
       omega (arith, c.add-r.auto, l.invariant.1),
       from_more _ l.z _ c.loop-z-test.true l.invariant.0 l.invariant.2

@@ -1,6 +1,5 @@
 -- `pick_rules::barred_at_edges` meets its contract: the word has what is barred at the edges below e. Assumes nothing.
 use mathlib.Core.Path.{◌≡◌, refl}
-use Prim.Native.Nat.{◌-◌}
 use native.Mathlib.Omega.{arith}
 use borrow.Author.Rules.{rules}
 use Rattle.pick_rules.specs.Rules.{edge_bar}

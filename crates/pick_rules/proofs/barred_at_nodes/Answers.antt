@@ -1,6 +1,5 @@
 -- `pick_rules::barred_at_nodes` meets its contract: the word has what is barred at the nodes below i. Assumes nothing.
 use mathlib.Core.Path.{◌≡◌, refl}
-use Prim.Native.Nat.{◌-◌}
 use native.Mathlib.Omega.{arith}
 use borrow.Author.Rules.{rules}
 use Rattle.pick_rules.specs.Rules.{node_bar}

@@ -2,7 +2,6 @@
 use mathlib.Core.Path.{sym, ◌∙◌}
 use Prim.Native.Nat.{◌≤◌, ◌<◌}
 use native.Mathlib.Omega.{arith}
-use borrow.Author.Tests.{not-true, not-false}
 use Rattle.paper.specs.Lists.{at}
 use Rattle.paper.specs.Table.{edges}
 use Rattle.table.proofs.Reading.{read-spans, target-node}

@@ -1,6 +1,5 @@
 -- `pick_rules::fill_rivals` meets its contract: the cells below k are filled. Assumes nothing.
 use mathlib.Core.Path.{refl, ◌∙◌}
-use Prim.Native.Nat.{◌-◌}
 use native.Mathlib.Omega.{arith}
 use lib.ListN.{length-set}
 use borrow.Author.Rules.{rules}

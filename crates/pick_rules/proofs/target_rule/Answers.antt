@@ -3,7 +3,6 @@ use mathlib.Core.Bool.{◌||◌}
 use mathlib.Core.Path.{sym, ap, ap₂, ◌∙◌}
 use Prim.Native.Nat.{ℕ, ◌-◌, ◌≤◌, ◌<◌}
 use native.Mathlib.Omega.{arith}
-use borrow.Author.Tests.{not-true, not-false}
 use Rattle.paper.specs.Lists.{at}
 use Rattle.paper.specs.Table.{nodes, is_buffer, is_outgoing}
 use Rattle.table.proofs.Reading.{read-spans}
