@@ -1,6 +1,5 @@
 -- `lowest_marked`: one place after the other. The invariant: nothing passed is marked. Assumes nothing.
 use mathlib.Core.Path.{sym, ◌∙◌}
-use Prim.Native.Nat.{◌-◌}
 use native.Mathlib.Omega.{arith}
 use borrow.Author.Count.{below_more}
 use Rattle.paper.proofs.Lists.{lowest-none, lowest-some}

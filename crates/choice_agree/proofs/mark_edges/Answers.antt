@@ -1,6 +1,5 @@
 -- `mark_edges`: one edge after the other. The invariant: the marks are those that stood there and those of the edges passed. Assumes nothing.
 use mathlib.Core.Path.{◌≡◌, refl}
-use Prim.Native.Nat.{◌-◌}
 use native.Mathlib.Omega.{arith}
 use Rattle.paper.specs.Table.{edges, target as target_of}
 use Rattle.words.specs.Marks.{is_marked}

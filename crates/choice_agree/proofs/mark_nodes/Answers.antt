@@ -1,7 +1,7 @@
 -- `mark_nodes`: one node after the other. The invariant: the marks are those that stood there and those of the nodes passed. Assumes nothing.
 use mathlib.Core.Path.{refl, ap}
 use mathlib.Core.Bool.{Bool, ◌||◌}
-use Prim.Native.Nat.{ℕ, ◌-◌}
+use Prim.Native.Nat.{ℕ}
 use native.Mathlib.Omega.{arith}
 use Rattle.paper.proofs.Counts.{any-below_self}
 use Rattle.words.specs.Marks.{is_marked}
@@ -13,13 +13,13 @@ use Rattle.choice_agree.proofs.mark_nodes.Goals as goal
 pub loop-i-init : goal.loop-i-init
 loop-i-init c =
     let wrong : ℕ → Bool =
-      let a = c.args in node_wrong a.t.now (is_marked a.starting.now) a.c a.by_target.now a.kept a.kept in
+    let a = c.args in node_wrong a.t.now (is_marked a.starting.now) a.c a.by_target.now a.kept a.kept in
     (search rules, refl, λ p h. pass_none p (wrong) (λ x. x) h)
 
 pub loop-i-preserved : goal.loop-i-preserved
 loop-i-preserved c =
     let wrong : ℕ → Bool =
-      let a = c.args in node_wrong a.t.now (is_marked a.starting.now) a.c a.by_target.now a.kept a.kept in
+    let a = c.args in node_wrong a.t.now (is_marked a.starting.now) a.c a.by_target.now a.kept a.kept in
     let p = c.loop-i in (
       search rules,
       search rules,
@@ -29,7 +29,7 @@ loop-i-preserved c =
 pub returns : goal.returns
 returns c =
     let wrong : ℕ → Bool =
-      let a = c.args in node_wrong a.t.now (is_marked a.starting.now) a.c a.by_target.now a.kept a.kept in
+    let a = c.args in node_wrong a.t.now (is_marked a.starting.now) a.c a.by_target.now a.kept a.kept in
     let a = c.args in
     let l = c.loop-i in
     let q = wrong in

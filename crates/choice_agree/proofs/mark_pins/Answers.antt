@@ -1,6 +1,5 @@
 -- `mark_pins`: one node after the other. The invariant: the marks are those that stood there and those of the nodes passed. Assumes nothing.
 use mathlib.Core.Path.{◌≡◌, refl}
-use Prim.Native.Nat.{◌-◌}
 use native.Mathlib.Omega.{arith}
 use Rattle.paper.specs.Table.{nodes, owner as ownerOf}
 use Rattle.words.specs.Marks.{is_marked}

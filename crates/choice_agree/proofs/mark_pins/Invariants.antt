@@ -3,7 +3,7 @@ use mathlib.Core.Path.{◌≡◌}
 use mathlib.Core.Bool.{Bool, ◌||◌}
 use Prim.Native.Nat.{ℕ, ◌-◌, ◌≤◌}
 use lib.ListN.{length}
-use Rattle.paper.specs.Table.{nodes, owner as ownerOf}
+use Rattle.paper.specs.Table.{owner as ownerOf}
 use Rattle.words.specs.Marks.{MarksOf, is_marked, placed}
 use Rattle.choice_agree.specs.Agreeing.{pin_wrong}
 use Rattle.choice_agree.proofs.mark_pins.Given as goal

@@ -1,6 +1,5 @@
 -- `fill_passed`: one row after the other. The invariant: the words say what the rows passed were made from. Assumes nothing.
 use mathlib.Core.Path.{◌≡◌, refl}
-use Prim.Native.Nat.{◌-◌}
 use native.Mathlib.Omega.{arith}
 use Rattle.choice_judge.proofs.Parted.{passed_none, passed-more}
 use borrow.Author.Rules.{rules}

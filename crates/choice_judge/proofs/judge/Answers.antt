@@ -21,11 +21,11 @@ parted_fork-requires c =
 pub returns-in-At-parted_fork : goal.returns-in-At-parted_fork
 returns-in-At-parted_fork c =
     let offers-of : Offers =
-      c.args.offers in
+    c.args.offers in
     let apart_none : let a = c.args in first_rivalled a.ends.foes a.ends.makers a.ends.count a.c ≡ none =
-      sym (c.competing_end.ensures c.all_makers-w.ensures) ∙ ap found c.in_default.is in
+    sym (c.competing_end.ensures c.all_makers-w.ensures) ∙ ap found c.in_default.is in
     let forks-are : let a = c.args in let o = offers-of in forks o.node o.parents a.ends.makers o.count a.ends.count a.c a.t.now ≡ forks_in o.node o.parents o.count c.all_makers-w.result a.t.now =
-      sym (forks-rows _ _ _ _ _ _ _ c.all_makers-w.ensures _) in
+    sym (forks-rows _ _ _ _ _ _ _ c.all_makers-w.ensures _) in
     rw (apart_none, forks-are ∙ sym c.parted_fork.ensures ∙ ap found c.in-At-parted_fork.is)
 
 pub unfit_node-requires : goal.unfit_node-requires
@@ -34,23 +34,23 @@ unfit_node-requires c = (read-spans c.args.t.now c.requires.0, c.requires.2, c.r
 pub returns-in-At-unfit_node : goal.returns-in-At-unfit_node
 returns-in-At-unfit_node c =
     let offers-of : Offers =
-      c.args.offers in
+    c.args.offers in
     let apart_none : let a = c.args in first_rivalled a.ends.foes a.ends.makers a.ends.count a.c ≡ none =
-      sym (c.competing_end.ensures c.all_makers-w.ensures) ∙ ap found c.in_default.is in
+    sym (c.competing_end.ensures c.all_makers-w.ensures) ∙ ap found c.in_default.is in
     let forks-are : let a = c.args in let o = offers-of in forks o.node o.parents a.ends.makers o.count a.ends.count a.c a.t.now ≡ forks_in o.node o.parents o.count c.all_makers-w.result a.t.now =
-      sym (forks-rows _ _ _ _ _ _ _ c.all_makers-w.ensures _) in
+    sym (forks-rows _ _ _ _ _ _ _ c.all_makers-w.ensures _) in
     let forks-none : let a = c.args in let o = offers-of in forks o.node o.parents a.ends.makers o.count a.ends.count a.c a.t.now ≡ none =
-      forks-are ∙ sym c.parted_fork.ensures ∙ ap found c.in_default-parted_fork.is in
+    forks-are ∙ sym c.parted_fork.ensures ∙ ap found c.in_default-parted_fork.is in
     rw (apart_none, forks-none, sym c.unfit_node.ensures ∙ ap found c.in-At-unfit_node.is)
 
 pub returns : goal.returns
 returns c =
     let offers-of : Offers =
-      c.args.offers in
+    c.args.offers in
     let apart_none : let a = c.args in first_rivalled a.ends.foes a.ends.makers a.ends.count a.c ≡ none =
-      sym (c.competing_end.ensures c.all_makers-w.ensures) ∙ ap found c.in_default.is in
+    sym (c.competing_end.ensures c.all_makers-w.ensures) ∙ ap found c.in_default.is in
     let forks-are : let a = c.args in let o = offers-of in forks o.node o.parents a.ends.makers o.count a.ends.count a.c a.t.now ≡ forks_in o.node o.parents o.count c.all_makers-w.result a.t.now =
-      sym (forks-rows _ _ _ _ _ _ _ c.all_makers-w.ensures _) in
+    sym (forks-rows _ _ _ _ _ _ _ c.all_makers-w.ensures _) in
     let forks-none : let a = c.args in let o = offers-of in forks o.node o.parents a.ends.makers o.count a.ends.count a.c a.t.now ≡ none =
-      forks-are ∙ sym c.parted_fork.ensures ∙ ap found c.in_default-parted_fork.is in
+    forks-are ∙ sym c.parted_fork.ensures ∙ ap found c.in_default-parted_fork.is in
     rw (apart_none, forks-none, sym c.unfit_node.ensures ∙ ap found c.in_default-unfit_node.is)

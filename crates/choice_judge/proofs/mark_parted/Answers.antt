@@ -1,7 +1,6 @@
 -- `mark_parted`: one row after the other. The invariant: the marks are those that stood there and those of the rows passed. Assumes nothing.
 use mathlib.Core.Path.{refl}
 use mathlib.Core.Bool.{false}
-use Prim.Native.Nat.{◌-◌}
 use native.Mathlib.Omega.{arith}
 use Rattle.paper.specs.Lists.{at}
 use Rattle.words.proofs.Marks.{pass_more, pass_done}
