@@ -1,5 +1,4 @@
 -- `clear_edges`: one edge after the other. Assumes nothing.
-use Prim.Native.Nat.{◌-◌}
 use mathlib.Core.Path.{◌≡◌, refl}
 use native.Mathlib.Omega.{arith}
 use Rattle.marking_held.proofs.Fillings.{filled_none, filled_set}

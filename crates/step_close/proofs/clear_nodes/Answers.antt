@@ -1,5 +1,5 @@
 -- `clear_nodes`: one node after the other; of an outgoing parameter the number of values is left as it is. Assumes nothing.
-use Prim.Native.Nat.{◌-◌, ◌<◌}
+use Prim.Native.Nat.{◌<◌}
 use mathlib.Core.Path.{◌≡◌}
 use native.Mathlib.Omega.{arith}
 use lib.ListN.{length}
@@ -13,34 +13,34 @@ loop-i-init c = let a = c.args in (omega arith, emptied_none a.t.now a.kept.now 
 pub bounds-kept-i : goal.bounds-kept-i
 bounds-kept-i c =
     let in_kept : c.loop-i.i < length c.loop-i.kept =
-      omega (arith, c.loop-i.invariant.1.kepts.long, c.requires.1, c.loop-i-test.true) in
+    omega (arith, c.loop-i.invariant.1.kepts.long, c.requires.1, c.loop-i-test.true) in
     in_kept
 
 pub bounds-more-i : goal.bounds-more-i
 bounds-more-i c =
     let in_more : c.loop-i.i < length c.loop-i.more =
-      omega (arith, c.loop-i.invariant.1.mores.long, c.requires.2, c.loop-i-test.true) in
+    omega (arith, c.loop-i.invariant.1.mores.long, c.requires.2, c.loop-i-test.true) in
     in_more
 
 pub bounds-runs-i : goal.bounds-runs-i
 bounds-runs-i c =
     let in_runs : c.loop-i.i < length c.loop-i.runs =
-      omega (arith, c.loop-i.invariant.1.still.long, c.requires.3, c.loop-i-test.true) in
+    omega (arith, c.loop-i.invariant.1.still.long, c.requires.3, c.loop-i-test.true) in
     in_runs
 
 pub loop-i-preserved : goal.loop-i-preserved
 loop-i-preserved c =
     let in_kept : c.loop-i.i < length c.loop-i.kept =
-      omega (arith, c.loop-i.invariant.1.kepts.long, c.requires.1, c.loop-i-test.true) in
+    omega (arith, c.loop-i.invariant.1.kepts.long, c.requires.1, c.loop-i-test.true) in
     let in_more : c.loop-i.i < length c.loop-i.more =
-      omega (arith, c.loop-i.invariant.1.mores.long, c.requires.2, c.loop-i-test.true) in
+    omega (arith, c.loop-i.invariant.1.mores.long, c.requires.2, c.loop-i-test.true) in
     let in_runs : c.loop-i.i < length c.loop-i.runs =
-      omega (arith, c.loop-i.invariant.1.still.long, c.requires.3, c.loop-i-test.true) in
+    omega (arith, c.loop-i.invariant.1.still.long, c.requires.3, c.loop-i-test.true) in
     let g = c.loop-i.invariant.1 in
     let k = c.kind.ensures.0 in (
       omega arith,
       elim c.if-kind-ne-OUTGOING.branch [
-        then-kind-ne-OUTGOING w ↦ rw (w.kept-is, w.more-is) (emptied_more g (in_runs) k w.if-kind-ne-OUTGOING.true (in_kept) (in_more))
+        | then-kind-ne-OUTGOING w ↦ rw (w.kept-is, w.more-is) (emptied_more g (in_runs) k w.if-kind-ne-OUTGOING.true (in_kept) (in_more))
         | else-kind-ne-OUTGOING w ↦ rw (w.kept-is, w.more-is) (emptied_left g (in_runs) k w.if-kind-ne-OUTGOING.false)
       ],
     )

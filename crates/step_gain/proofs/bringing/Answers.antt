@@ -1,7 +1,7 @@
 -- `bringing`: one end after the other. The invariant: the word has those passed that are taken and have a value. Assumes nothing.
 use mathlib.Core.Path.{◌≡◌, sym, ap, ◌∙◌}
 use mathlib.Core.Bool.{Bool, not, ◌&&◌}
-use Prim.Native.Nat.{ℕ, ◌-◌}
+use Prim.Native.Nat.{ℕ}
 use native.Mathlib.Omega.{arith}
 use lib.Dec.{eqb}
 use Rattle.paper.specs.Lists.{at, has}
@@ -26,7 +26,7 @@ loop-k-preserved c = let a = c.args in
     let p : ℕ → Bool = λ j. has a.c j && not (eqb (at a.valued.now (at a.row.now j)) 0) in (
       omega arith,
       elim c.if-brings_value.branch [
-        then-brings_value w ↦ rw (w.w-is, w.end_of-w.ensures) (marks-more p s.k s.w (sym e ∙ w.if-brings_value.true) s.invariant.1)
+        | then-brings_value w ↦ rw (w.w-is, w.end_of-w.ensures) (marks-more p s.k s.w (sym e ∙ w.if-brings_value.true) s.invariant.1)
         | else-brings_value w ↦ rw w.w-is (marks_skip p s.k s.w (sym e ∙ w.if-brings_value.false) s.invariant.1)
       ],
     )

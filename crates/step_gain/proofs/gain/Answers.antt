@@ -2,7 +2,7 @@
 use mathlib.Core.Path.{◌≡◌, ◌∙◌}
 use mathlib.Core.Bool.{false}
 use mathlib.Core.List.{List}
-use Prim.Native.Nat.{ℕ, ◌+◌, ◌*◌, ◌-◌, ◌≤◌}
+use Prim.Native.Nat.{ℕ, ◌+◌, ◌*◌, ◌≤◌}
 use native.Mathlib.Omega.{arith}
 use lib.ListN.{length}
 use lib.Seq.{sets}
@@ -32,13 +32,13 @@ module _ (c : Joined-reached-i-ne0) where
   stored : (c.if-reached-i-ne0.many ≡ length here) × (c.if-reached-i-ne0.extra ≡ sets c.loop-i.extra c.loop-i.to (gather four here))
   stored =
       elim c.if-reached-i-ne0.branch [
-        then-reached-i-ne0 w ↦ (w.many-is ∙ w.gain_node-many.ensures.0, w.extra-is ∙ w.gain_node-many.ensures.1)
+        | then-reached-i-ne0 w ↦ (w.many-is ∙ w.gain_node-many.ensures.0, w.extra-is ∙ w.gain_node-many.ensures.1)
         | else-reached-i-ne0 w ↦
-          let e = c.args.ends in
-          let l = c.loop-i in
-          let g = nothing_came e.target e.row c.args.value.now c.args.w l.i e.count l.extra l.to marks-stand
+            let e = c.args.ends in
+            let l = c.loop-i in
+            let g = nothing_came e.target e.row c.args.value.now c.args.w l.i e.count l.extra l.to marks-stand
             (omega (arith, c.requires.0)) w.if-reached-i-ne0.false in
-          (w.many-is ∙ g.0, w.extra-is ∙ g.1)
+            (w.many-is ∙ g.0, w.extra-is ∙ g.1)
       ]
 
   few : c.if-reached-i-ne0.many ≤ limits.most_ends

@@ -12,7 +12,7 @@ returns-then-not-goes_to c = let h = sym c.goes_to.ensures ∙ c.if-not-goes_to.
 pub write32-requires : goal.write32-requires
 write32-requires c =
     let goes : let a = c.args in goes_to a.target.now a.w a.i a.k ≡ true =
-      sym c.goes_to.ensures ∙ c.if-not-goes_to.false in
+    sym c.goes_to.ensures ∙ c.if-not-goes_to.false in
     let a = c.args in
     let l : length (brought a.target.now a.row.now a.value.now a.w a.i a.k) ≡ 1 = rw (goes) in
     omega (arith, c.requires.4)
@@ -20,5 +20,5 @@ write32-requires c =
 pub returns : goal.returns
 returns c =
     let goes : let a = c.args in goes_to a.target.now a.w a.i a.k ≡ true =
-      sym c.goes_to.ensures ∙ c.if-not-goes_to.false in
+    sym c.goes_to.ensures ∙ c.if-not-goes_to.false in
     (sym (rw (goes)), c.write32.ensures ∙ rw (goes, c.wide.ensures.0))

@@ -1,5 +1,5 @@
 -- `gain_node`: one end after the other; the values are one run. Assumes nothing.
-use Prim.Native.Nat.{ℕ, ◌+◌, ◌*◌, ◌-◌, ◌≤◌}
+use Prim.Native.Nat.{ℕ, ◌+◌, ◌*◌, ◌≤◌}
 use mathlib.Core.List.{List}
 use mathlib.Core.Path.{◌≡◌}
 use native.Mathlib.Omega.{arith}
@@ -16,37 +16,37 @@ loop-k-init c = let a = c.args in
 pub overflow_mul-many : goal.overflow_mul-many
 overflow_mul-many c =
     let here : List ℕ =
-      let a = c.args in
-      brought a.target.now a.row.now a.value.now a.w a.i c.loop-k.k in
+    let a = c.args in
+    brought a.target.now a.row.now a.value.now a.w a.i c.loop-k.k in
     let room : c.args.place + 4 * (c.loop-k.many + length here) ≤ length c.args.extra.now =
-      let a = c.args in
-      let s = c.loop-k in
-      let l = coming-room a.target.now a.row.now a.value.now a.w a.i a.n s.k c.loop-k-test.true in
-      omega (arith, c.requires.3, s.invariant.2.number, l) in
+    let a = c.args in
+    let s = c.loop-k in
+    let l = coming-room a.target.now a.row.now a.value.now a.w a.i a.n s.k c.loop-k-test.true in
+    omega (arith, c.requires.3, s.invariant.2.number, l) in
     omega (arith, room)
 
 pub overflow_add-place : goal.overflow_add-place
 overflow_add-place c =
     let here : List ℕ =
-      let a = c.args in
-      brought a.target.now a.row.now a.value.now a.w a.i c.loop-k.k in
+    let a = c.args in
+    brought a.target.now a.row.now a.value.now a.w a.i c.loop-k.k in
     let room : c.args.place + 4 * (c.loop-k.many + length here) ≤ length c.args.extra.now =
-      let a = c.args in
-      let s = c.loop-k in
-      let l = coming-room a.target.now a.row.now a.value.now a.w a.i a.n s.k c.loop-k-test.true in
-      omega (arith, c.requires.3, s.invariant.2.number, l) in
+    let a = c.args in
+    let s = c.loop-k in
+    let l = coming-room a.target.now a.row.now a.value.now a.w a.i a.n s.k c.loop-k-test.true in
+    omega (arith, c.requires.3, s.invariant.2.number, l) in
     omega (arith, room)
 
 pub gain_end-many-requires : goal.gain_end-many-requires
 gain_end-many-requires c =
     let here : List ℕ =
-      let a = c.args in
-      brought a.target.now a.row.now a.value.now a.w a.i c.loop-k.k in
+    let a = c.args in
+    brought a.target.now a.row.now a.value.now a.w a.i c.loop-k.k in
     let room : c.args.place + 4 * (c.loop-k.many + length here) ≤ length c.args.extra.now =
-      let a = c.args in
-      let s = c.loop-k in
-      let l = coming-room a.target.now a.row.now a.value.now a.w a.i a.n s.k c.loop-k-test.true in
-      omega (arith, c.requires.3, s.invariant.2.number, l) in
+    let a = c.args in
+    let s = c.loop-k in
+    let l = coming-room a.target.now a.row.now a.value.now a.w a.i a.n s.k c.loop-k-test.true in
+    omega (arith, c.requires.3, s.invariant.2.number, l) in
     let p = c.requires in
     let s = c.loop-k in
     (omega arith, omega (arith, p.2.many), p.2.each-inside s.k c.loop-k-test.true, omega arith, omega (arith, room, s.invariant.1))
@@ -54,13 +54,13 @@ gain_end-many-requires c =
 pub overflow_add-many : goal.overflow_add-many
 overflow_add-many c =
     let here : List ℕ =
-      let a = c.args in
-      brought a.target.now a.row.now a.value.now a.w a.i c.loop-k.k in
+    let a = c.args in
+    brought a.target.now a.row.now a.value.now a.w a.i c.loop-k.k in
     let room : c.args.place + 4 * (c.loop-k.many + length here) ≤ length c.args.extra.now =
-      let a = c.args in
-      let s = c.loop-k in
-      let l = coming-room a.target.now a.row.now a.value.now a.w a.i a.n s.k c.loop-k-test.true in
-      omega (arith, c.requires.3, s.invariant.2.number, l) in
+    let a = c.args in
+    let s = c.loop-k in
+    let l = coming-room a.target.now a.row.now a.value.now a.w a.i a.n s.k c.loop-k-test.true in
+    omega (arith, c.requires.3, s.invariant.2.number, l) in
     omega (arith, c.gain_end-many.ensures.0, room)
 
 pub loop-k-preserved : goal.loop-k-preserved

@@ -1,6 +1,5 @@
 -- `mark_column`: one end after the other. The invariant: the marks are those that stood there and those of the ends passed. Assumes nothing.
 use mathlib.Core.Path.{◌≡◌, refl}
-use Prim.Native.Nat.{◌-◌}
 use native.Mathlib.Omega.{arith}
 use Rattle.paper.specs.Lists.{at, has}
 use Rattle.words.proofs.Marks.{pass_none, pass_more}

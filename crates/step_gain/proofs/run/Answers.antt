@@ -1,5 +1,5 @@
 -- `run`: one node after the other. Assumes nothing.
-use Prim.Native.Nat.{ℕ, ◌-◌, ◌<◌}
+use Prim.Native.Nat.{ℕ, ◌<◌}
 use mathlib.Core.Path.{◌≡◌, ap, ◌∙◌}
 use mathlib.Core.Bool.{◌&&◌, cond}
 use native.Mathlib.Omega.{arith}
@@ -18,19 +18,19 @@ loop-i-init c = let a = c.args in
 pub bounds-runs-i : goal.bounds-runs-i
 bounds-runs-i c =
     let inside : c.loop-i.i < length c.loop-i.runs =
-      omega (arith, c.loop-i.invariant.1.long, c.requires.2, c.loop-i-test.true) in
+    omega (arith, c.loop-i.invariant.1.long, c.requires.2, c.loop-i-test.true) in
     inside
 
 pub bounds-runs-i-in-loop-i : goal.bounds-runs-i-in-loop-i
 bounds-runs-i-in-loop-i c =
     let inside : c.loop-i.i < length c.loop-i.runs =
-      omega (arith, c.loop-i.invariant.1.long, c.requires.2, c.loop-i-test.true) in
+    omega (arith, c.loop-i.invariant.1.long, c.requires.2, c.loop-i-test.true) in
     inside
 
 pub loop-i-preserved : goal.loop-i-preserved
 loop-i-preserved c =
     let inside : c.loop-i.i < length c.loop-i.runs =
-      omega (arith, c.loop-i.invariant.1.long, c.requires.2, c.loop-i-test.true) in
+    omega (arith, c.loop-i.invariant.1.long, c.requires.2, c.loop-i-test.true) in
     let t = c.args.t.now in
     let s = c.loop-i in
     let k : c.kind.result ≡ kind_of t s.i = c.kind.ensures.0 in
