@@ -3,10 +3,10 @@
 use mathlib.Core.Path.{◌≡◌, refl, sym, ap, ◌∙◌, subst}
 use Prim.Native.Nat.{ℕ, zero, suc}
 use mathlib.Core.Bool.{Bool, not}
-use mathlib.Core.List.{List, []}
+use mathlib.Core.List.{List}
 use mathlib.Core.Option.{Option, none, some}
 use lib.Dec.{eqb}
-use Rattle.paper.specs.Lists.{at, below, keep, each}
+use Rattle.paper.specs.Lists.{at, below, keep}
 use Rattle.paper.specs.Answers.{Answer, good, ◌>>=◌, need, known}
 use Rattle.paper.specs.Limits.{limits}
 use Rattle.paper.specs.Table.{edges, source, into, table_fine}

@@ -10,11 +10,11 @@ use mathlib.Core.Option.{Option, none, some}
 use lib.Dec.{leb, ltb, eqb}
 use lib.ListN.{length}
 use borrow.Author.Tests.{eqb-true, eq-eqb, ne_eqb, leb-true, ltb-true, not-true}
-use Rattle.paper.specs.Lists.{at, below, all, within, ◌⇒◌}
+use Rattle.paper.specs.Lists.{at, within, ◌⇒◌}
 use Rattle.paper.specs.Bytes.{framed}
 use Rattle.paper.specs.Table.{edges, is_object, is_control}
 use Rattle.paper.specs.Offers.{bounds_version, bounds_count, bound_at, bound_edge, low, high, bound_fine, bounds_fine, in_bounds, no_bounds, terms, goes_over}
-use Rattle.paper.proofs.Bools.{never, and-true, if_true, iff, true_or_false}
+use Rattle.paper.proofs.Bools.{never, and-true, if_true, iff}
 use Rattle.paper.proofs.Lists.{all-below, below_all}
 
 -- ---- what a good list says

@@ -1,7 +1,7 @@
 -- Why (wish 4): on every board each node has exactly one reason, and a search over all sets of ends finds it; it is 0 exactly if pick isn't refused with 13. A
 -- node that doesn't exist gets 1, 255 gets 0, and from 2 on an end belongs to the node. Assumes nothing.
 use mathlib.Core.Path.{◌≡◌, refl, sym, ap, subst, ◌∙◌}
-use Prim.Native.Nat.{ℕ, zero, suc, ◌^◌, ◌≤◌, ◌<◌}
+use Prim.Native.Nat.{ℕ, zero, suc, ◌≤◌, ◌<◌}
 use native.Mathlib.Omega.{arith}
 use mathlib.Core.Bool.{Bool, true, false, not, ◌&&◌, cond}
 use mathlib.Core.Logic.{⊎_elim}
@@ -10,14 +10,14 @@ use mathlib.Core.Option.{Option, none, some}
 use lib.Dec.{ltb, eqb}
 use lib.ListN.{length}
 use borrow.Author.Tests.{eqb-true, ltb-true, not-true, not-false}
-use Rattle.paper.specs.Lists.{below, all, any, lowest}
+use Rattle.paper.specs.Lists.{all, any}
 use Rattle.paper.specs.Limits.{limits}
 use Rattle.paper.specs.Answers.{Answer, refused, good, ◌>>=◌, refuse_if, judged_by, is_good}
-use Rattle.paper.specs.Table.{nodes, edges, kind, owner, target, is_pin, is_action}
+use Rattle.paper.specs.Table.{nodes, edges, kind, owner, is_pin, is_action}
 use Rattle.paper.specs.Offers.{Offer, last_edge, Terms, goes_over, offers, target_of, belongs}
 use Rattle.paper.specs.Choices.{Board, board, how_many, taken_ends, agrees, rule3, rules, acceptable}
 use Rattle.paper.specs.Operations.{named, wanted, PickOn, PickIf, Pick, own_of, levels, left, SomeLeft, NoneLeft, FirstEmpty, Reason, WhyIf, Why}
-use Rattle.paper.proofs.Bools.{never, and-true, and_both, and_never, or-true, or_right, iff, false_if, true_or_false}
+use Rattle.paper.proofs.Bools.{never, and-true, and_both, or-true, or_right, iff, false_if, true_or_false}
 use Rattle.paper.proofs.Members.{In, here, later, any_in, all_in}
 use Rattle.paper.proofs.Lists.{lowest-is-none}
 use Rattle.paper.proofs.Tables.{GoodTable, table-good}
@@ -26,7 +26,7 @@ use Rattle.paper.proofs.Origins.{in_offers}
 use Rattle.paper.proofs.Sameness.{on-last}
 use Rattle.paper.proofs.Ends.{in_ends}
 use Rattle.paper.proofs.Taken.{taken_in}
-use Rattle.paper.proofs.Levels.{not_both, some_less, first_one, first_fits, first_next, some-at_0, first_empty, first-there}
+use Rattle.paper.proofs.Levels.{first_one, first_fits, first_next, some-at_0, first_empty, first-there}
 
 -- ---- exactly one reason, on any board
 reason_named : (d : Board) (n r s : ℕ) (b : Bool) → named n ≡ b → Reason d n r → Reason d n s → r ≡ s

@@ -15,7 +15,7 @@ use Rattle.paper.specs.Limits.{limits}
 use Rattle.paper.specs.Answers.{good}
 use Rattle.paper.specs.Table.{edges, kind, source, into, out, is_initial, is_action, is_decision, is_merge, is_fork, is_join, is_control_node, is_object_node, is_object, is_control, may_leave, degrees_fine, one_kind, join_fine, table_fine}
 use Rattle.paper.specs.Marking.{Marking, counted}
-use Rattle.paper.specs.Offers.{Offer, first, over, with, elem, parts, value, is_some, last_edge, origins, made_at, or_else, firsts, ways, offers_on, offers}
+use Rattle.paper.specs.Offers.{Offer, first, with, elem, parts, value, is_some, last_edge, origins, made_at, or_else, firsts, ways, offers_on, offers}
 use Rattle.paper.proofs.Bools.{never, and-true, or-true, or_left, or_right, if_true}
 use Rattle.paper.proofs.Members.{In, here, later, in_one, in-cons, in-equal, in-append, append_left, append_right, any_in, in_any, all_in, any-count, only, snoc_some}
 use Rattle.paper.proofs.Counts.{all_append}

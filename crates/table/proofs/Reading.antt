@@ -10,7 +10,7 @@ use lib.ListN.{replicate}
 use Rattle.paper.specs.Lists.{lowest}
 use Rattle.paper.specs.Answers.{Answer, refused, good, ◌>>=◌}
 use Rattle.paper.specs.Limits.{limits}
-use Rattle.paper.specs.Table.{nodes, edges, source, target, table_fine}
+use Rattle.paper.specs.Table.{source, target, table_fine}
 use Rattle.paper.proofs.Lists.{lowest-none, lowest-some}
 use Rattle.paper.proofs.Ladders.{no_good, row-good, same_good}
 use Rattle.paper.proofs.Tables.{GoodTable, table-good}

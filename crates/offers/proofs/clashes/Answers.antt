@@ -1,8 +1,7 @@
 -- `offers::clashes` meets its contract: the loop has marked the rows below j that clash. Assumes nothing.
 use mathlib.Core.Bool.{Bool}
 use mathlib.Core.Path.{◌≡◌, sym, ap, ◌∙◌, subst}
-use mathlib.Core.Logic.{⊎_elim}
-use Prim.Native.Nat.{ℕ, ◌+◌, ◌-◌}
+use Prim.Native.Nat.{ℕ, ◌+◌}
 use native.Mathlib.Omega.{arith}
 use lib.Bits.{bit_or}
 use borrow.Author.Rules.{rules}
@@ -31,9 +30,9 @@ loop-j-preserved c =
     let e = c.hits.ensures in (
       search rules,
       elim c.if-hits.branch [
-        then-hits w ↦ subst (λ d. Hits r a.n a.k a.a a.c (l.j + 1) d) (ap (λ b. bit_or l.d b) (sym w.bit_of-d.ensures) ∙ sym w.d-is)
-          (marks-more p l.j l.d (sym e ∙ w.if-hits.true) l.invariant.1)
-      | else-hits w ↦ subst (λ d. Hits r a.n a.k a.a a.c (l.j + 1) d) (sym w.d-is)
-          (marks_skip p l.j l.d (sym e ∙ w.if-hits.false) l.invariant.1)
+        | then-hits w ↦ subst (λ d. Hits r a.n a.k a.a a.c (l.j + 1) d) (ap (λ b. bit_or l.d b) (sym w.bit_of-d.ensures) ∙ sym w.d-is)
+            (marks-more p l.j l.d (sym e ∙ w.if-hits.true) l.invariant.1)
+        | else-hits w ↦ subst (λ d. Hits r a.n a.k a.a a.c (l.j + 1) d) (sym w.d-is)
+            (marks_skip p l.j l.d (sym e ∙ w.if-hits.false) l.invariant.1)
       ],
     )

@@ -1,8 +1,7 @@
 -- `offers::controls` meets its contract: the loop has marked the rows below j that have no value. Assumes nothing.
 use mathlib.Core.Bool.{Bool}
-use mathlib.Core.Path.{◌≡◌, sym, ap, ◌∙◌, subst}
-use mathlib.Core.Logic.{⊎_elim}
-use Prim.Native.Nat.{ℕ, ◌+◌, ◌-◌, ◌^◌}
+use mathlib.Core.Path.{◌≡◌, sym, subst}
+use Prim.Native.Nat.{ℕ, ◌+◌, ◌^◌}
 use native.Mathlib.Omega.{arith}
 use lib.Dec.{eqb}
 use lib.Bits.{bit_or}
@@ -34,9 +33,9 @@ loop-j-preserved c =
     let p : ℕ → Bool = λ j. eqb (r.entry j).has 0 in (
       search rules,
       elim c.if-rows-j-eq0.branch [
-        then-rows-j-eq0 w ↦ let e : bit_or l.d (2 ^ l.j) ≡ c.if-rows-j-eq0.d = cc in
-          subst (λ d. Controls r (l.j + 1) d) e (marks-more p l.j l.d (eq-eqb _ 0 w.if-rows-j-eq0.true) l.invariant.1)
-      | else-rows-j-eq0 w ↦ subst (λ d. Controls r (l.j + 1) d) (sym w.d-is)
-          (marks_skip p l.j l.d (ne_eqb _ 0 w.if-rows-j-eq0.false) l.invariant.1)
+        | then-rows-j-eq0 w ↦ let e : bit_or l.d (2 ^ l.j) ≡ c.if-rows-j-eq0.d = cc in
+            subst (λ d. Controls r (l.j + 1) d) e (marks-more p l.j l.d (eq-eqb _ 0 w.if-rows-j-eq0.true) l.invariant.1)
+        | else-rows-j-eq0 w ↦ subst (λ d. Controls r (l.j + 1) d) (sym w.d-is)
+            (marks_skip p l.j l.d (ne_eqb _ 0 w.if-rows-j-eq0.false) l.invariant.1)
       ],
     )

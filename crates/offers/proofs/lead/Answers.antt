@@ -1,12 +1,9 @@
 -- `offers::lead` meets its contract: the loop has led on the first k paths, as far as there is room. Assumes nothing.
-use mathlib.Core.Path.{◌≡◌, sym, subst}
-use mathlib.Core.Logic.{⊎_elim}
-use Prim.Native.Nat.{◌+◌, ◌-◌}
+use mathlib.Core.Path.{◌≡◌, subst}
 use native.Mathlib.Omega.{arith}
-use lib.ListN.{length-set}
 use borrow.Author.Rules.{rules}
 use Rattle.offers.specs.Rows.{Led}
-use Rattle.offers.proofs.Cells.{led_none, led_one, led_skip}
+use Rattle.offers.proofs.Cells.{led_none}
 use Rattle.offers.proofs.lead.Goals as goal
 
 pub loop-k-init : goal.loop-k-init

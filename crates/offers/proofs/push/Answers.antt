@@ -17,7 +17,7 @@ overflow_add-rows c = omega (arith, c.requires)
 pub bounds-rows-at-2 : goal.bounds-rows-at-2
 bounds-rows-at-2 c =
     let rooms-at : Rooms c.args.rows.now (16 * c.args.count) c.args.onto.edge c.args.onto.node c.args.worth.has c.args.worth.value c.args.paths c.args.parents c.args.makers c.args.foes =
-      rooms c.args.rows.now (16 * c.args.count) c.args.onto.edge c.args.onto.node c.args.worth.has c.args.worth.value c.args.paths c.args.parents c.args.makers c.args.foes (omega (arith, c.requires)) in
+    rooms c.args.rows.now (16 * c.args.count) c.args.onto.edge c.args.onto.node c.args.worth.has c.args.worth.value c.args.paths c.args.parents c.args.makers c.args.foes (omega (arith, c.requires)) in
     (rooms-at).0
 
 pub offset_bounds-rows-at-3 : goal.offset_bounds-rows-at-3
@@ -26,7 +26,7 @@ offset_bounds-rows-at-3 c = omega arith
 pub bounds-rows-at-3 : goal.bounds-rows-at-3
 bounds-rows-at-3 c =
     let rooms-at : Rooms c.args.rows.now (16 * c.args.count) c.args.onto.edge c.args.onto.node c.args.worth.has c.args.worth.value c.args.paths c.args.parents c.args.makers c.args.foes =
-      rooms c.args.rows.now (16 * c.args.count) c.args.onto.edge c.args.onto.node c.args.worth.has c.args.worth.value c.args.paths c.args.parents c.args.makers c.args.foes (omega (arith, c.requires)) in
+    rooms c.args.rows.now (16 * c.args.count) c.args.onto.edge c.args.onto.node c.args.worth.has c.args.worth.value c.args.paths c.args.parents c.args.makers c.args.foes (omega (arith, c.requires)) in
     (rooms-at).1
 
 pub overflow_add-rows-3 : goal.overflow_add-rows-3
@@ -38,7 +38,7 @@ offset_bounds-rows-at-4 c = omega (arith, c.requires)
 pub bounds-rows-at-4 : goal.bounds-rows-at-4
 bounds-rows-at-4 c =
     let rooms-at : Rooms c.args.rows.now (16 * c.args.count) c.args.onto.edge c.args.onto.node c.args.worth.has c.args.worth.value c.args.paths c.args.parents c.args.makers c.args.foes =
-      rooms c.args.rows.now (16 * c.args.count) c.args.onto.edge c.args.onto.node c.args.worth.has c.args.worth.value c.args.paths c.args.parents c.args.makers c.args.foes (omega (arith, c.requires)) in
+    rooms c.args.rows.now (16 * c.args.count) c.args.onto.edge c.args.onto.node c.args.worth.has c.args.worth.value c.args.paths c.args.parents c.args.makers c.args.foes (omega (arith, c.requires)) in
     (rooms-at).2
 
 pub overflow_add-rows-4 : goal.overflow_add-rows-4
@@ -47,7 +47,7 @@ overflow_add-rows-4 c = omega (arith, c.requires)
 pub bounds-rows-at-5 : goal.bounds-rows-at-5
 bounds-rows-at-5 c =
     let rooms-at : Rooms c.args.rows.now (16 * c.args.count) c.args.onto.edge c.args.onto.node c.args.worth.has c.args.worth.value c.args.paths c.args.parents c.args.makers c.args.foes =
-      rooms c.args.rows.now (16 * c.args.count) c.args.onto.edge c.args.onto.node c.args.worth.has c.args.worth.value c.args.paths c.args.parents c.args.makers c.args.foes (omega (arith, c.requires)) in
+    rooms c.args.rows.now (16 * c.args.count) c.args.onto.edge c.args.onto.node c.args.worth.has c.args.worth.value c.args.paths c.args.parents c.args.makers c.args.foes (omega (arith, c.requires)) in
     (rooms-at).3
 
 pub offset_bounds-rows-at-6 : goal.offset_bounds-rows-at-6
@@ -56,19 +56,19 @@ offset_bounds-rows-at-6 c = omega arith
 pub bounds-rows-at-6 : goal.bounds-rows-at-6
 bounds-rows-at-6 c =
     let rooms-at : Rooms c.args.rows.now (16 * c.args.count) c.args.onto.edge c.args.onto.node c.args.worth.has c.args.worth.value c.args.paths c.args.parents c.args.makers c.args.foes =
-      rooms c.args.rows.now (16 * c.args.count) c.args.onto.edge c.args.onto.node c.args.worth.has c.args.worth.value c.args.paths c.args.parents c.args.makers c.args.foes (omega (arith, c.requires)) in
+    rooms c.args.rows.now (16 * c.args.count) c.args.onto.edge c.args.onto.node c.args.worth.has c.args.worth.value c.args.paths c.args.parents c.args.makers c.args.foes (omega (arith, c.requires)) in
     (rooms-at).4
 
 pub bounds-rows-at-7 : goal.bounds-rows-at-7
 bounds-rows-at-7 c =
     let rooms-at : Rooms c.args.rows.now (16 * c.args.count) c.args.onto.edge c.args.onto.node c.args.worth.has c.args.worth.value c.args.paths c.args.parents c.args.makers c.args.foes =
-      rooms c.args.rows.now (16 * c.args.count) c.args.onto.edge c.args.onto.node c.args.worth.has c.args.worth.value c.args.paths c.args.parents c.args.makers c.args.foes (omega (arith, c.requires)) in
+    rooms c.args.rows.now (16 * c.args.count) c.args.onto.edge c.args.onto.node c.args.worth.has c.args.worth.value c.args.paths c.args.parents c.args.makers c.args.foes (omega (arith, c.requires)) in
     (rooms-at).5
 
 pub bounds-rows-at-8 : goal.bounds-rows-at-8
 bounds-rows-at-8 c =
     let rooms-at : Rooms c.args.rows.now (16 * c.args.count) c.args.onto.edge c.args.onto.node c.args.worth.has c.args.worth.value c.args.paths c.args.parents c.args.makers c.args.foes =
-      rooms c.args.rows.now (16 * c.args.count) c.args.onto.edge c.args.onto.node c.args.worth.has c.args.worth.value c.args.paths c.args.parents c.args.makers c.args.foes (omega (arith, c.requires)) in
+    rooms c.args.rows.now (16 * c.args.count) c.args.onto.edge c.args.onto.node c.args.worth.has c.args.worth.value c.args.paths c.args.parents c.args.makers c.args.foes (omega (arith, c.requires)) in
     (rooms-at).6
 
 pub shape_of-rows : goal.shape_of-rows

@@ -1,6 +1,6 @@
 -- `table::list_incoming` meets its contract: the loop has listed the edges from j on. Assumes nothing.
 use mathlib.Core.Path.{◌≡◌}
-use Prim.Native.Nat.{◌-◌, ◌≤◌}
+use Prim.Native.Nat.{◌≤◌}
 use lib.ListN.{length}
 use Rattle.paper.specs.Table.{nodes, edges, target}
 use Rattle.table.proofs.Incoming.{Begun}

@@ -1,5 +1,4 @@
 -- `copy` stores a part of one list in another. The invariant: the bytes passed are stored. Assumes nothing.
-use Prim.Native.Nat.{◌-◌}
 use mathlib.Core.Path.{◌≡◌}
 use native.Mathlib.Omega.{arith}
 use lib.ListN.{length-set}
