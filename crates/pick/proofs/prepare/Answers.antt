@@ -5,4 +5,4 @@ use Rattle.pick.proofs.prepare.Goals as goal
 pub returns : goal.returns
 returns c =
     let f = c.fill-rules in
-    (f.ensures.0, λ d s. sought s f.new.0 f.result _ c.wanted.result (f.ensures.1 (roomy s)) c.wanted.ensures)
+    (f.ensures.0, λ d s. sought s f.new.net f.result _ c.wanted.result (f.ensures.1 (roomy s)) c.wanted.ensures)
