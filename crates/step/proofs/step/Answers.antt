@@ -1,7 +1,6 @@
 -- `step`: row 9, the first rule that refuses, or what the stages make of the marking, ended or not, written. Assumes nothing.
 use mathlib.Core.Path.{◌≡◌, sym, ap, ◌∙◌}
 use mathlib.Core.Bool.{Bool}
-use mathlib.Core.List.{List}
 use Prim.Native.Nat.{ℕ}
 use native.Mathlib.Omega.{arith}
 use Rattle.paper.specs.Lists.{one_if}
