@@ -19,7 +19,7 @@ put_in_order-requires c =
       omega (arith, c.if-n-gt-MOST_ENDS.false) in
     let p = c.requires.1 in
     let few = found-few in
-    let slots : Slots c.collect-n.new.1.1.1.1.0 c.collect-n.result
+    let slots : Slots c.collect-n.new.found c.collect-n.result
     = record { few = few; there = omega (arith, c.collect-n.auto); rows = λ s l. keyed-inside p.ranges (c.collect-n.ensures.keyed few s l) } in (
       (p.rows-there, (slots, (omega (arith, c.collect-n.auto), c.collect-n.ensures.grouped few))),
       p.rooms,
@@ -32,4 +32,4 @@ returns c =
     let p = c.requires.1 in
     let few = found-few in
     told-good (record { few = few; is_found = c.collect-n.ensures.good few; keyed = c.collect-n.ensures.keyed few; ordered = c.put_in_order.ensures })
-    (omega (arith, c.put_in_order.kept, p.rooms.cells-room))
+    (omega (arith, c.put_in_order.auto, p.rooms.cells-room))

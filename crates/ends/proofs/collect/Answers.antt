@@ -1,15 +1,14 @@
 -- `ends::collect` meets its contract: the loop has found the rows of the edges below e, with their keys. Assumes nothing.
 use mathlib.Core.Path.{◌≡◌, sym, ap, ◌∙◌}
-use mathlib.Core.Logic.{⊎_elim}
 use Prim.Native.Nat.{◌-◌, ◌<◌}
 use native.Mathlib.Omega.{arith}
-use borrow.Author.Tests.{not-true, not-false}
 use borrow.Author.Rules.{rules}
 use Rattle.paper.specs.Table.{edges, kind, is_control_node}
 use Rattle.table.proofs.Reading.{read-spans, edges_most, target-node}
 use Rattle.ends.specs.Slots.{end_rows}
 use Rattle.ends.proofs.Found.{rows_none, rows_skip, rows_more, rows-many, keyed-more, rising_none, rising_skip, rising-more, key-is}
 use Rattle.ends.proofs.collect.Goals as goal
+use Rattle.ends.proofs.collect.Goals.{then-not-is_control_node+else-n-b-gt-MOST_ENDS, else-not-is_control_node}
 
 pub loop-e-init : goal.loop-e-init
 loop-e-init c =
@@ -112,27 +111,27 @@ loop-e-preserved c =
     let q = p.1.0.0 l.e in
     let key = key-is a.t.now v.result l.e v.ensures.0 in
     let skip = rows_skip a.t.now a.from.now a.to.now l.found l.n l.e l.invariant.1.0 in
-    ⊎_elim
-    (λ w. (
-      ((search rules, rw w.15 (omega (arith, w.5.left))), (rw w.13 (omega (arith, w.8.kept)), rw w.14 (omega (arith, w.8.kept)))),
-      (
-        rw (w.13, w.15) (rows_more a.t.now a.from.now a.to.now l.found l.n l.e l.invariant.1.0
-            (sym is ∙ sym s ∙ not-true _ w.0.taken) w.2.ensures.0 w.4.ensures.0 w.8.ensures),
+    elim c.if-not-is_control_node.branch [
+      then-not-is_control_node+else-n-b-gt-MOST_ENDS w ↦ (
+        ((search rules, rw w.n-is (omega (arith, w.if-n-b-gt-MOST_ENDS.false))), (rw w.found-is (omega (arith, w.add_rows.auto)), rw w.keys-is (omega (arith, w.add_rows.auto)))),
         (
-          rw (w.13, w.14, w.15) (keyed-more w.8.ensures l.e (omega arith) (omega arith) w.2.ensures.0
-              (omega (arith, w.2.ensures.0, w.4.ensures.0)) key l.invariant.1.1.0),
-          rw (w.14, w.15) (rising-more w.8.ensures (omega arith) l.invariant.1.1.1),
+          rw (w.found-is, w.n-is) (rows_more a.t.now a.from.now a.to.now l.found l.n l.e l.invariant.1.0
+              (sym is ∙ sym s ∙ w.if-not-is_control_node.true) w.wide-a.ensures.0 w.wide-b.ensures.0 w.add_rows.ensures),
+          (
+            rw (w.found-is, w.keys-is, w.n-is) (keyed-more w.add_rows.ensures l.e (omega arith) (omega arith) w.wide-a.ensures.0
+                (omega (arith, w.wide-a.ensures.0, w.wide-b.ensures.0)) key l.invariant.1.1.0),
+            rw (w.keys-is, w.n-is) (rising-more w.add_rows.ensures (omega arith) l.invariant.1.1.1),
+          ),
         ),
-      ),
-    ))
-    (λ w. (
-      ((search rules, rw w.3 (omega arith)), (rw w.1 (omega arith), rw w.2 (omega arith))),
-      (
-        rw (w.1, w.3) (skip (sym is ∙ sym s ∙ not-false _ w.0.left)),
-        (rw (w.1, w.2, w.3) l.invariant.1.1.0, rw (w.2, w.3) (rising_skip l.invariant.1.1.1)),
-      ),
-    ))
-    c.if-not-is_control_node.branch
+      )
+    | else-not-is_control_node w ↦ (
+        ((search rules, rw w.n-is (omega arith)), (rw w.found-is (omega arith), rw w.keys-is (omega arith))),
+        (
+          rw (w.found-is, w.n-is) (skip (sym is ∙ sym s ∙ w.if-not-is_control_node.false)),
+          (rw (w.found-is, w.keys-is, w.n-is) l.invariant.1.1.0, rw (w.keys-is, w.n-is) (rising_skip l.invariant.1.1.1)),
+        ),
+      )
+    ]
 
 pub shape_of-found : goal.shape_of-found
 shape_of-found c = omega (arith, c.loop-e-test.false)

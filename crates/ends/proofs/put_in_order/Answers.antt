@@ -21,19 +21,19 @@ sort_ends-requires c =
         keys_there = p.0.1.1.0;
         rows-there = p.0.0;
         there = p.0.1.0.there;
-        blocks = omega (arith, k.kept);
-        room = record { lengths = omega (arith, k.kept, p.1.lens-room); cells-there = omega (arith, k.kept, p.1.cells-room) };
+        blocks = omega (arith, k.auto);
+        room = record { lengths = omega (arith, k.auto, p.1.lens-room); cells-there = omega (arith, k.auto, p.1.cells-room) };
       },
       (slots_read p.0.1.0 (k.ensures p.0.1.1.1), (p.0.1.0.few, search rules)),
     )
 
 pub lay_rows-requires : goal.lay_rows-requires
 lay_rows-requires c =
-    let slot_inside : let n = c.args.n in j < n → at c.sort_ends.new.0 j < n =
-      λ j l. let a = c.args in
-      let k = c.order_paths.new.1.1.1.1.1 in
-      let by = by_end a.keys.now a.rows.now a.found.now k.0 k.1.0 k.1.1.0 in
-      (in_order-inside by c.sort_ends.new.0 0 a.n c.sort_ends.ensures j (omega arith) l).1 in
+    let a = c.args in
+    let k = c.order_paths.new in
+    let slots = c.sort_ends.new.slots in
+    let by = by_end a.keys.now a.rows.now a.found.now k.sorted k.lens k.cells in
+    let slot_inside : (j : ℕ) → j < a.n → at slots j < a.n = λ j l. (in_order-inside by slots 0 a.n c.sort_ends.ensures j (omega arith) l).1 in
     let p = c.requires in (
       (omega (arith, c.sort_ends.auto, p.0.1.0.few), omega (arith, p.0.1.0.few, p.1.ends-room)),
       λ j l. omega (arith, slot_inside j l, p.0.1.0.there, p.0.1.0.few),
@@ -41,40 +41,33 @@ lay_rows-requires c =
 
 pub lay_paths-requires : goal.lay_paths-requires
 lay_paths-requires c =
-    let slot_inside : let n = c.args.n in j < n → at c.sort_ends.new.0 j < n =
-      λ j l. let a = c.args in
-      let k = c.order_paths.new.1.1.1.1.1 in
-      let by = by_end a.keys.now a.rows.now a.found.now k.0 k.1.0 k.1.1.0 in
-      (in_order-inside by c.sort_ends.new.0 0 a.n c.sort_ends.ensures j (omega arith) l).1 in
-    let p = c.requires in
-    let k = c.order_paths in (
-      ((p.0.1.0.few, omega (arith, c.sort_ends.kept, p.0.1.0.few)), (omega (arith, k.kept), p.1.order-room)),
+    let a = c.args in
+    let k = c.order_paths in
+    let slots = c.sort_ends.new.slots in
+    let by = by_end a.keys.now a.rows.now a.found.now k.new.sorted k.new.lens k.new.cells in
+    let slot_inside : (j : ℕ) → j < a.n → at slots j < a.n = λ j l. (in_order-inside by slots 0 a.n c.sort_ends.ensures j (omega arith) l).1 in
+    let p = c.requires in (
+      ((p.0.1.0.few, omega (arith, c.sort_ends.auto, p.0.1.0.few)), (omega (arith, k.auto), p.1.order-room)),
       λ j l. omega (arith, slot_inside j l, p.0.1.0.few),
     )
 
+-- what is promised once the blocks are laid, or are not to be shown
 pub returns-then-show : goal.returns-then-show
-returns-then-show c =
-    let ordered : let k = c.order_paths.last.1.1.1.1.1 in let a = c.args in (a.show ≡ true → (x : ℕ) → x < first_block a.n → at order x ≡ at k.0 (laid_from c.sort_ends.last.0 x)) → Ordered a.rows.now a.found.now a.keys.now a.n a.show c.lay_rows.new.1.1.1.0 order k.1.0 k.1.1.0 =
-      λ order h. record {
-      sorted = c.order_paths.last.1.1.1.1.1.0;
-      slots = c.sort_ends.last.0;
-      pathed = c.order_paths.ensures c.requires.0.1.1.1;
-      ends-sorted = c.sort_ends.ensures;
-      rows_laid = c.lay_rows.ensures;
-      blocks_laid = h;
-      } in
-    ordered c.lay_paths.new.1.1.1.0 (λ e. c.lay_paths.ensures)
+returns-then-show c = record {
+  sorted = c.order_paths.new.sorted;
+  slots = c.sort_ends.new.slots;
+  pathed = c.order_paths.ensures c.requires.0.1.1.1;
+  ends-sorted = c.sort_ends.ensures;
+  rows_laid = c.lay_rows.ensures;
+  blocks_laid = λ e. c.lay_paths.ensures;
+}
 
 pub returns-else-show : goal.returns-else-show
-returns-else-show c =
-    let ordered : let k = c.order_paths.last.1.1.1.1.1 in let a = c.args in (a.show ≡ true → (x : ℕ) → x < first_block a.n → at order x ≡ at k.0 (laid_from c.sort_ends.last.0 x)) → Ordered a.rows.now a.found.now a.keys.now a.n a.show c.lay_rows.new.1.1.1.0 order k.1.0 k.1.1.0 =
-      λ order h. record {
-      sorted = c.order_paths.last.1.1.1.1.1.0;
-      slots = c.sort_ends.last.0;
-      pathed = c.order_paths.ensures c.requires.0.1.1.1;
-      ends-sorted = c.sort_ends.ensures;
-      rows_laid = c.lay_rows.ensures;
-      blocks_laid = h;
-      } in
-    let a = c.args in
-    ordered a.order.now (λ e. never a.show e c.if-show.false)
+returns-else-show c = record {
+  sorted = c.order_paths.new.sorted;
+  slots = c.sort_ends.new.slots;
+  pathed = c.order_paths.ensures c.requires.0.1.1.1;
+  ends-sorted = c.sort_ends.ensures;
+  rows_laid = c.lay_rows.ensures;
+  blocks_laid = λ e. never c.args.show e c.if-show.false;
+}
