@@ -12,8 +12,8 @@ returns c =
     let x = c.build in
     let a = c.args in
     let t = a.t.now in
-    let parts = x.last.1.1.1.1.1.1.1 in (
-      ranges_more parts.0 parts.1.0 x.result.count _ x.ensures.0.0 x.ensures.0.1,
+    (
+      ranges_more x.new.from x.new.to x.result.count _ x.ensures.0.0 x.ensures.0.1,
       λ m goes ties ok held.
           x.ensures.1 m goes (good-input t c.requires.0 m goes a.g.now a.bounds.now ties) (held-starts t c.requires.0 m a.b.now a.fields ok held),
     )
