@@ -1,4 +1,5 @@
 -- `lay`: too many offers or paths, or what the ends say. Assumes nothing.
+use borrow.Author.Tests.{not-true, not-false}
 use Rattle.paper.proofs.Bytes.{Bytes}
 use Rattle.paper.specs.Offers.{terms, goes_over}
 use Rattle.marking_held.specs.MarkingHeld.{LiveMarking, fields_held}
@@ -27,7 +28,7 @@ returns-then-not-built c = λ l f.
     let goes = goes_over (terms a.g.now a.bounds.now) in
     let u : Bytes a.b.now = λ i. (c.type_inv.b i).fits in
     let built = c.offered-built.ensures.1 l.current goes (fine-ties a.t.now a.g.now a.bounds.now f) (live-is-good a.t.now a.b.now (fields_held a.fields) l u) l.held in
-    board_8 a.t.now a.b.now a.g.now a.bounds.now c.requires.0 l f (built.bad c.if-not-built.true)
+    board_8 a.t.now a.b.now a.g.now a.bounds.now c.requires.0 l f (built.bad (not-true _ c.if-not-built.true))
 
 pub arrange-answer-requires : goal.arrange-answer-requires
 arrange-answer-requires c =
@@ -45,7 +46,7 @@ returns c = λ l f.
     let goes = goes_over (terms a.g.now a.bounds.now) in
     let u : Bytes a.b.now = λ i. (c.type_inv.b i).fits in
     let built = x.ensures.1 l.current goes (fine-ties a.t.now a.g.now a.bounds.now f) (live-is-good a.t.now a.b.now (fields_held a.fields) l u) l.held in
-    let w = built.good c.if-not-built.false in
+    let w = built.good (not-false _ c.if-not-built.false) in
     board_arranged a.t.now a.b.now a.g.now a.bounds.now c.requires.0 l f a.show x.new.rows x.result.count
     (ends_lent e.new.ends e.new.order e.new.lens e.new.cells) x.new.from x.new.to w e.result
     (e.ensures l.current goes x.result.count w)
