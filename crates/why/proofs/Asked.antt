@@ -5,10 +5,10 @@ use mathlib.Core.List.{List, [], ◌∷◌, ◌++◌}
 use mathlib.Core.Option.{none}
 use Prim.Native.Nat.{ℕ, zero, suc, ◌+◌, ◌^◌, ◌≤◌, ◌<◌}
 use native.Mathlib.Omega.{arith}
-use lib.Dec.{leb, eqb}
+use lib.Dec.{leb}
 use lib.ListN.{length, set, drop}
 use borrow.Author.Tests.{ne_eqb}
-use Rattle.paper.specs.Lists.{at, any, each, below}
+use Rattle.paper.specs.Lists.{at, any, below}
 use Rattle.paper.specs.Limits.{limits}
 use Rattle.paper.specs.Answers.{good, judged_by, is_good}
 use Rattle.paper.specs.Table.{nodes}

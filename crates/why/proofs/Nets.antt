@@ -1,6 +1,6 @@
 -- The net of a level says what the levels up to it ask, past that of taking an end: the rules of a node's own, rivals, forks, in the order of the levels.
 -- Assumes of the table that it is good, and of the stocks that they are within their uppers.
-use mathlib.Core.Path.{◌≡◌, refl, sym, ap, ap₂, ◌∙◌}
+use mathlib.Core.Path.{◌≡◌, refl, ◌∙◌}
 use mathlib.Core.Bool.{Bool, true, false, ◌&&◌}
 use mathlib.Core.List.{List, [], ◌∷◌}
 use Prim.Native.Nat.{ℕ}
@@ -12,7 +12,7 @@ use Rattle.table.specs.Reading.{Blank}
 use Rattle.offers.specs.declared.Offers.{Offers}
 use Rattle.ends_masks.specs.Seating.{destinations_fit, no_rivals, forks_whole}
 use Rattle.ends_masks.specs.declared.Ends.{Ends}
-use Rattle.pick_rules.specs.Rules.{holds, all_pass, Starts, RulesAdded, AddedUpto, Roomy, on_each, clash_kept, fork_kept, destination_tests}
+use Rattle.pick_rules.specs.Rules.{holds, Starts, RulesAdded, AddedUpto, Roomy, on_each, clash_kept, fork_kept, destination_tests}
 use Rattle.pick_rules.proofs.Rows.{added_then, started_then, blank-starts}
 use Rattle.why.specs.Reasons.{asks}
 use Rattle.pick_rules.proofs.Allowed.{alike_then, clashes_say, forks_say, destinations_alike}

@@ -2,17 +2,17 @@
 -- no pin, and of the stocks that they are within their uppers.
 use mathlib.Core.Path.{◌≡◌, refl, sym, ap, ap₂, subst, ◌∙◌}
 use mathlib.Core.Logic.{⊎_elim}
-use mathlib.Core.Bool.{Bool, true, false, not, ◌&&◌, ◌||◌, cond, or-false}
+use mathlib.Core.Bool.{Bool, true, false, ◌&&◌, ◌||◌, cond, or-false}
 use mathlib.Core.List.{List}
 use Prim.Native.Nat.{ℕ, ◌+◌, ◌≤◌, ◌<◌}
 use native.Mathlib.Omega.{arith}
 use lib.Dec.{leb, ltb, eqb}
 use lib.ListN.{length, set}
 use lib.Seq.{get_or-set_same, get_or-set_other}
-use borrow.Author.Tests.{eq-eqb, ne_eqb, eqb-true, leb-false, le-leb, ltb-true}
-use Rattle.paper.specs.Lists.{at, has, below, all, any, count, within, ◌⇒◌}
+use borrow.Author.Tests.{eq-eqb, ne_eqb, eqb-true, leb-false, le-leb}
+use Rattle.paper.specs.Lists.{at, has, below, all, count, within, ◌⇒◌}
 use Rattle.paper.specs.Limits.{limits}
-use Rattle.paper.specs.Table.{nodes, edges, kind, owner, lower, upper, into, inputs, is_action, is_pin, is_input, is_output, is_buffer, is_outgoing, target as targetOfEdge}
+use Rattle.paper.specs.Table.{nodes, kind, owner, lower, upper, into, inputs, is_action, is_pin, is_input, is_output, is_buffer, is_outgoing}
 use Rattle.paper.specs.Operations.{own_of}
 use Rattle.paper.proofs.Bools.{never, and-true, and_both, and_never, or-true, iff, false_if, true_or_false}
 use Rattle.paper.proofs.Counts.{any-below-none, count-below-same}

@@ -1,9 +1,8 @@
 -- `climb`: at the levels gone through some are left. Assumes nothing.
 use mathlib.Core.Bool.{true, false}
 use mathlib.Core.Path.{◌≡◌, refl, subst}
-use Prim.Native.Nat.{suc, ◌+◌, ◌-◌}
+use Prim.Native.Nat.{suc, ◌+◌}
 use native.Mathlib.Omega.{arith}
-use borrow.Author.Tests.{not-true, not-false}
 use Rattle.paper.specs.Choices.{how_many}
 use Rattle.paper.specs.Operations.{levels, SomeLeft}
 use Rattle.paper.proofs.Levels.{some-at_0}

@@ -1,6 +1,5 @@
 -- `leave_own`: the entries below k were gone through, the others stand as they were. Assumes nothing.
 use mathlib.Core.Path.{refl, ◌∙◌}
-use Prim.Native.Nat.{◌-◌}
 use native.Mathlib.Omega.{arith}
 use lib.ListN.{length-set}
 use Rattle.why.proofs.Own.{so_far_none, so_far_more, so_far_all}

@@ -1,6 +1,6 @@
 -- `own_of` meets its contract: a pin's action, or the node. Assumes nothing.
 use mathlib.Core.Path.{sym, ap, ◌∙◌}
-use Rattle.paper.specs.Table.{kind, owner, is_pin}
+use Rattle.paper.specs.Table.{is_pin}
 use Rattle.table.proofs.Reading.{read-spans}
 use Rattle.why.proofs.Own.{own_of_pin, own_of_other}
 use Rattle.why.proofs.own_of.Goals as goal

@@ -15,6 +15,6 @@ returns c =
     let e : c.own_of.result ≡ own_of a.t.now a.node = c.own_of.ensures ∙ ap (own_of a.t.now) c.wide.ensures.0 in
     let w : OwnEnds a.ends (own_of a.t.now a.node) c.own_ends-own.result = rw (sym e) c.own_ends-own.ensures in (
       f.ensures.0,
-      λ few d st. level_sought st a.node (omega (arith, (read-spans _ c.requires.0).nodes-read, c.requires.4)) _ w f.new.0 f.result a.k c.wanted.result few
+      λ few d st. level_sought st a.node (omega (arith, (read-spans _ c.requires.0).nodes-read, c.requires.4)) _ w f.new.net f.result a.k c.wanted.result few
           (f.ensures.1 few (roomy st)) c.wanted.ensures,
     )
