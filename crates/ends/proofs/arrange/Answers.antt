@@ -16,7 +16,7 @@ returns-then-n-gt-MOST_ENDS c =
 pub put_in_order-requires : goal.put_in_order-requires
 put_in_order-requires c =
     let found-few : c.collect-n.result ≤ limits.most_ends =
-      omega (arith, c.if-n-gt-MOST_ENDS.false) in
+    omega (arith, c.if-n-gt-MOST_ENDS.false) in
     let p = c.requires.1 in
     let few = found-few in
     let slots : Slots c.collect-n.new.found c.collect-n.result
@@ -28,7 +28,7 @@ put_in_order-requires c =
 pub returns : goal.returns
 returns c =
     let found-few : c.collect-n.result ≤ limits.most_ends =
-      omega (arith, c.if-n-gt-MOST_ENDS.false) in
+    omega (arith, c.if-n-gt-MOST_ENDS.false) in
     let p = c.requires.1 in
     let few = found-few in
     told-good (record { few = few; is_found = c.collect-n.ensures.good few; keyed = c.collect-n.ensures.keyed few; ordered = c.put_in_order.ensures })

@@ -1,6 +1,6 @@
 -- `ends::collect` meets its contract: the loop has found the rows of the edges below e, with their keys. Assumes nothing.
 use mathlib.Core.Path.{◌≡◌, sym, ap, ◌∙◌}
-use Prim.Native.Nat.{◌-◌, ◌<◌}
+use Prim.Native.Nat.{◌<◌}
 use native.Mathlib.Omega.{arith}
 use borrow.Author.Rules.{rules}
 use Rattle.paper.specs.Table.{edges, kind, is_control_node}
@@ -60,22 +60,22 @@ returns-then-n-b-gt-MOST_ENDS c =
 pub overflow_mul-node : goal.overflow_mul-node
 overflow_mul-node c =
     let parts-small : (c.target-node.result < 256) × (c.loop-e.e < 256) =
-      let few = edges_most c.args.t.now c.requires.0 in
-      (omega (arith, c.target-node.ensures.1), omega arith) in
+    let few = edges_most c.args.t.now c.requires.0 in
+    (omega (arith, c.target-node.ensures.1), omega arith) in
     omega (arith, parts-small)
 
 pub overflow_add-node : goal.overflow_add-node
 overflow_add-node c =
     let parts-small : (c.target-node.result < 256) × (c.loop-e.e < 256) =
-      let few = edges_most c.args.t.now c.requires.0 in
-      (omega (arith, c.target-node.ensures.1), omega arith) in
+    let few = edges_most c.args.t.now c.requires.0 in
+    (omega (arith, c.target-node.ensures.1), omega arith) in
     omega (arith, parts-small)
 
 pub overflow_cast-node : goal.overflow_cast-node
 overflow_cast-node c =
     let parts-small : (c.target-node.result < 256) × (c.loop-e.e < 256) =
-      let few = edges_most c.args.t.now c.requires.0 in
-      (omega (arith, c.target-node.ensures.1), omega arith) in
+    let few = edges_most c.args.t.now c.requires.0 in
+    (omega (arith, c.target-node.ensures.1), omega arith) in
     omega (arith, parts-small)
 
 pub add_rows-requires : goal.add_rows-requires
@@ -112,7 +112,7 @@ loop-e-preserved c =
     let key = key-is a.t.now v.result l.e v.ensures.0 in
     let skip = rows_skip a.t.now a.from.now a.to.now l.found l.n l.e l.invariant.1.0 in
     elim c.if-not-is_control_node.branch [
-      then-not-is_control_node+else-n-b-gt-MOST_ENDS w ↦ (
+      | then-not-is_control_node+else-n-b-gt-MOST_ENDS w ↦ (
         ((search rules, rw w.n-is (omega (arith, w.if-n-b-gt-MOST_ENDS.false))), (rw w.found-is (omega (arith, w.add_rows.auto)), rw w.keys-is (omega (arith, w.add_rows.auto)))),
         (
           rw (w.found-is, w.n-is) (rows_more a.t.now a.from.now a.to.now l.found l.n l.e l.invariant.1.0
@@ -124,7 +124,7 @@ loop-e-preserved c =
           ),
         ),
       )
-    | else-not-is_control_node w ↦ (
+      | else-not-is_control_node w ↦ (
         ((search rules, rw w.n-is (omega arith)), (rw w.found-is (omega arith), rw w.keys-is (omega arith))),
         (
           rw (w.found-is, w.n-is) (skip (sym is ∙ sym s ∙ w.if-not-is_control_node.false)),

@@ -4,7 +4,6 @@ use Prim.Native.Nat.{ℕ, ◌-◌, ◌≤◌, ◌<◌}
 use lib.ListN.{length}
 use Rattle.paper.specs.Lists.{at}
 use Rattle.paper.specs.Limits.{limits}
-use Rattle.paper.specs.Table.{edges}
 use Rattle.ends_paths.specs.Blocks.{run}
 use Rattle.ends.specs.Slots.{end_rows, Keyed}
 use Rattle.ends.proofs.Found.{Rising}

@@ -1,6 +1,5 @@
 -- `ends::lay_rows` meets its contract: the loop has laid the rows of the ends below k. Assumes nothing.
 use mathlib.Core.Path.{ap}
-use Prim.Native.Nat.{◌-◌}
 use native.Mathlib.Omega.{arith}
 use lib.ListN.{length-set}
 use borrow.Author.Rules.{rules}

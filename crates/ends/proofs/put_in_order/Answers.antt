@@ -1,15 +1,11 @@
 -- `ends::put_in_order` meets its contract: what one part leaves is what the next one reads. Assumes nothing.
-use mathlib.Core.Path.{◌≡◌}
-use mathlib.Core.Bool.{true}
 use Prim.Native.Nat.{ℕ, ◌<◌}
 use native.Mathlib.Omega.{arith}
 use borrow.Author.Rules.{rules}
 use Rattle.paper.specs.Lists.{at}
 use Rattle.paper.proofs.Bools.{never}
-use Rattle.ends_paths.specs.Blocks.{first_block}
 use Rattle.ends_paths.proofs.Insertion.{in_order-inside}
 use Rattle.ends_order.specs.Order.{by_end}
-use Rattle.ends.specs.Slots.{laid_from, Ordered}
 use Rattle.ends.proofs.Order.{slots_read}
 use Rattle.ends.proofs.put_in_order.Goals as goal
 
