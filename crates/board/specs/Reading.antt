@@ -1,6 +1,6 @@
 -- What is laid of a board: the offers and ends of the paper's board by rows, and the ends' paths, over what is held of the marking.
 -- Assumes nothing.
-use Rattle.std.specs.Prelude.{ℕ, ◌≤◌, ◌≡◌, Bool, List, [], length}
+use Rattle.std.specs.Prelude.{ℕ, ◌≡◌, Bool, List, []}
 use Rattle.paper.specs.Answers.{refused, good}
 use Rattle.paper.specs.Offers.{Offer, elem, Terms}
 use Rattle.paper.specs.Choices.{board, Board}

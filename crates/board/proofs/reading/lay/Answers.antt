@@ -2,17 +2,12 @@
 use borrow.Author.Tests.{not-true, not-false}
 use Rattle.paper.proofs.Bytes.{Bytes}
 use Rattle.paper.specs.Offers.{terms, goes_over}
-use Rattle.marking_held.specs.MarkingHeld.{LiveMarking, fields_held}
+use Rattle.marking_held.specs.MarkingHeld.{fields_held}
 use Rattle.marking_held.proofs.HeldLaws.{live-is-good}
-use Rattle.offers.specs.Rows.{rows_in}
-use Rattle.offers_all.specs.Stages.{Result}
 use Rattle.offers_all.proofs.Stages.{ranges-zero}
 use Rattle.board.specs.Reading.{ends_lent}
 use Rattle.board.proofs.Ladder.{board_8, board_arranged, fine-ties}
-use Rattle.terms.specs.Terms.{terms_fine}
-use Rattle.paper.specs.Answers.{good}
 use Rattle.paper.specs.Limits.{limits}
-use mathlib.Core.Path.{◌≡◌}
 use native.Mathlib.Omega.{arith}
 use borrow.Author.Rules.{rules}
 use Rattle.board.proofs.reading.lay.Goals as goal

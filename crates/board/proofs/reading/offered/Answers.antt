@@ -11,8 +11,7 @@ pub returns : goal.returns
 returns c =
     let x = c.build in
     let a = c.args in
-    let t = a.t.now in
-    (
+    let t = a.t.now in (
       ranges_more x.new.from x.new.to x.result.count _ x.ensures.0.0 x.ensures.0.1,
       λ m goes ties ok held.
           x.ensures.1 m goes (good-input t c.requires.0 m goes a.g.now a.bounds.now ties) (held-starts t c.requires.0 m a.b.now a.fields ok held),
