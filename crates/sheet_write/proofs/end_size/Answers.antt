@@ -1,5 +1,5 @@
 -- `end_size` adds up what the paths take. Assumes nothing.
-use Prim.Native.Nat.{◌+◌, ◌-◌}
+use Prim.Native.Nat.{◌+◌}
 use mathlib.Core.Path.{◌≡◌, ap, ◌∙◌}
 use native.Mathlib.Omega.{arith}
 use Rattle.paper.specs.Lists.{at}
@@ -26,7 +26,7 @@ bounds-order-k c = let p = c.requires in
 pub path_size-taken-requires : goal.path_size-taken-requires
 path_size-taken-requires c =
     let known : c.paths_of-m.result ≡ many c.args.rows.now (at c.args.ends.now c.args.k) =
-      c.paths_of-m.ensures.0 ∙ ap (many c.args.rows.now) c.wide.ensures.0 in
+    c.paths_of-m.ensures.0 ∙ ap (many c.args.rows.now) c.wide.ensures.0 in
     let p = c.requires in
     omega (arith, p.0.lengths, p.0.blocks c.args.k c.loop-j.j p.1 (omega (arith, known)), c.wide-in-loop-j.ensures.0)
 
@@ -43,7 +43,7 @@ pub returns : goal.returns
 unfolding end_takes
 returns c =
     let known : c.paths_of-m.result ≡ many c.args.rows.now (at c.args.ends.now c.args.k) =
-      c.paths_of-m.ensures.0 ∙ ap (many c.args.rows.now) c.wide.ensures.0 in
+    c.paths_of-m.ensures.0 ∙ ap (many c.args.rows.now) c.wide.ensures.0 in
     let l = c.loop-j in
     let z : l.j ≡ many c.args.rows.now (at c.args.ends.now c.args.k) = omega (arith, known) in
     (rw (← z) l.invariant.1, omega (arith, c.paths_of-m.ensures.1))

@@ -1,5 +1,4 @@
 -- `size` adds up what the ends take. Assumes nothing.
-use Prim.Native.Nat.{◌-◌}
 use mathlib.Core.Path.{◌≡◌}
 use native.Mathlib.Omega.{arith}
 use Rattle.wire.specs.Totals.{total}

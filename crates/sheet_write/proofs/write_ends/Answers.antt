@@ -1,5 +1,4 @@
 -- `write_ends` stores the ends as one run. The invariant: those passed are stored, and the next starts where they end. Assumes nothing.
-use Prim.Native.Nat.{◌-◌}
 use mathlib.Core.Path.{◌≡◌, ◌∙◌}
 use native.Mathlib.Omega.{arith}
 use Rattle.wire.proofs.Runs.{total-more, total-room, run_more}
