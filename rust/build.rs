@@ -82,7 +82,7 @@ fn end(sentence: &str) -> ! {
 fn missing(target: &str, archives: &Path) -> String {
     format!(
         "no archive for {target} in {}: `make` in keshmirun's repository makes those that there are, for x86_64-unknown-linux-gnu and \
-         aarch64-unknown-linux-gnu, and KESHMIRUN_ARCHIVE names the folder if they stand elsewhere.",
+         aarch64-unknown-linux-gnu.",
         archives.display()
     )
 }

@@ -7,8 +7,8 @@
 //!
 //!     cargo run --release --example bench
 
-#[path = "events/mod.rs"]
-mod events;
+#[path = "events/built.rs"]
+mod built;
 #[path = "events/full.rs"]
 mod full;
 #[path = "events/hard.rs"]
@@ -16,7 +16,7 @@ mod hard;
 #[path = "events/stack.rs"]
 mod stack;
 
-use events::Day;
+use built::Day;
 use full::Full;
 use hard::HARD;
 use keshmirun::{Bounds, Choice, EdgeKind, Guards, NodeId, OwnedTable, Refusal, Room, Terms, Values, NO_BOUNDS, NO_NODE};
@@ -98,7 +98,7 @@ fn worst() -> impl Iterator<Item = (f64, Option<f64>)> {
 
 /// The paper's small event; the first end is taken, and the action finished.
 fn small() -> Result<Point, Refusal> {
-    let table = events::small()?;
+    let table = built::small()?;
     let (values, guards, choice) = (Values::of([[7, 9]]), table.guards(), Choice::of([0])?);
     let marking = table.start(&values)?;
     let running = table.step(&marking, &guards, &choice)?.into_bytes();
@@ -108,7 +108,7 @@ fn small() -> Result<Point, Refusal> {
 
 /// The day when its round is called: the seats are full, two are left over, and both matches begin; then the first of them ends.
 fn day() -> Result<Point, Refusal> {
-    let Day { table, to_reserve, call_round, match_a, .. } = events::day()?;
+    let Day { table, to_reserve, call_round, match_a, .. } = built::day()?;
     let (values, results) = (Values::of([[40, 17, 23, 8, 31, 5]]), Values::of([[17], [40]]));
     let mut guards = table.guards();
     guards.close(to_reserve)?;

@@ -2,10 +2,10 @@
 //!
 //!     cargo run --example day
 
-#[path = "events/mod.rs"]
-pub mod events;
+#[path = "events/built.rs"]
+pub mod built;
 
-use events::Day;
+use built::Day;
 use keshmirun::{Choice, Guards, Holding, OwnedMarking, OwnedSheet, Refusal, Values};
 
 fn main() -> Result<(), Box<dyn std::error::Error>> {
@@ -15,7 +15,7 @@ fn main() -> Result<(), Box<dyn std::error::Error>> {
 
 /// Plays the day with these players until it has ended or nothing more can happen, and tells what was seen.
 pub fn play(entrants: &[u32]) -> Result<String, Refusal> {
-    let day = events::day()?;
+    let day = built::day()?;
     let marking = day.table.start(&Values::of([entrants]))?;
     let mut guards = day.table.guards();
     guards.close(day.to_reserve)?; // the reserve is for those who come late

@@ -118,7 +118,7 @@ mod typed;
 #[cfg_attr(doc, doc = include_str!(concat!(env!("OUT_DIR"), "/FORMATS.md")))]
 pub mod formats {}
 
-/// The lines of README.md that call the crate, compiled as they stand there.
+/// The lines of README.md that call the crate, compiled as they stand there; of those over plain slices the tests do that.
 #[cfg(doctest)]
 #[doc = include_str!(concat!(env!("OUT_DIR"), "/README.md"))]
 struct Readme;

@@ -35,7 +35,7 @@ pub struct Refusal {
 
 impl Refusal {
     /// What [`Sheet::new`](crate::Sheet::new) says of bytes that are no sheet of the table. The engine writes sheets and reads none, so the paper has no number
-    /// for that; this one is the crate's own.
+    /// for that; this one is the crate's own, and has no meaning in the paper.
     pub const NOT_A_SHEET: Refusal = Refusal { number: 255, place: 0 };
 
     /// The refusal of this number at no place.
@@ -43,7 +43,7 @@ impl Refusal {
         Refusal { number, place: 0 }
     }
 
-    /// What the number means.
+    /// What the number means in the paper.
     pub fn meaning(&self) -> &'static str {
         match self.number {
             1 => "the table's frame, version or counts",
@@ -64,7 +64,6 @@ impl Refusal {
             16 => "a stock would pass its upper, or an edge is at 255",
             17 => "the lent output is shorter than the reply",
             18 => "the bounds list: its frame, an edge, their order, or low above high",
-            255 => "the bytes are no sheet of this table",
             _ => "no refusal of the paper",
         }
     }

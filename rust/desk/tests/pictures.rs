@@ -1,11 +1,11 @@
 //! The diagram and the page, as the program prints and writes them: everything is there, Graphviz takes it, names are safe, and the picture goes
 //! with the day.
 
+#[path = "../../examples/events/built.rs"]
+mod built;
 #[allow(dead_code)] // the other tests use the rest
 #[path = "desk/common.rs"]
 mod common;
-#[path = "../../examples/events/mod.rs"]
-mod events;
 
 use common::Folder;
 use std::io::Write;
@@ -85,7 +85,7 @@ fn one_match_over(name: &str) -> Folder {
 fn the_example_is_the_day_that_the_library_plays() {
     let folder = Folder::with("pictures example", DAY);
     folder.told("make", "");
-    assert_eq!(folder.read("day.table"), events::day().expect("a table").table.as_bytes());
+    assert_eq!(folder.read("day.table"), built::day().expect("a table").table.as_bytes());
 }
 
 #[test]

@@ -72,6 +72,7 @@ fn two_results_go_through_with_one_token() {
     assert_eq!(reply(point.step(&[0, 1])), both);
 }
 
+#[allow(clippy::redundant_clone)] // the last answer is written as the others
 #[test]
 fn each_result_still_goes_through_alone() {
     let point = Point::started(&round_into_buffer(2), &[7, 9]);
@@ -79,7 +80,7 @@ fn each_result_still_goes_through_alone() {
     assert_eq!(reply(point.step(&[0])), first);
     let second = framed("01 00 01 00000007 00 01 00000009 00");
     assert_eq!(reply(point.step(&[1])), second);
-    assert_eq!(point.step(&[]), Answer::Good(point.marking));
+    assert_eq!(point.step(&[]), Answer::Good(point.marking.clone()));
 }
 
 #[test]

@@ -84,7 +84,7 @@ fn one_sentence() {
     for target in ["x86_64-unknown-linux-gnu", "aarch64-unknown-linux-gnu", "riscv64gc-unknown-linux-gnu"] {
         let sentence = format!(
             "no archive for {target} in /no/such/folder: `make` in keshmirun's repository makes those that there are, for \
-             x86_64-unknown-linux-gnu and aarch64-unknown-linux-gnu, and KESHMIRUN_ARCHIVE names the folder if they stand elsewhere."
+             x86_64-unknown-linux-gnu and aarch64-unknown-linux-gnu."
         );
         assert_said(target, Path::new("/no/such/folder"), &sentence);
     }

@@ -51,7 +51,7 @@ impl Point {
     }
 
     /// The ends on offer, each by its last edge, value and number of paths. Sheet, pick, and step with what is picked are held to the reading.
-    fn ends(&self, bounds: &[u8]) -> Vec<(u8, Option<u32>, usize)> {
+    fn ends(&self, bounds: &[u8]) -> Vec<(u8, Option<u32>, u8)> {
         let picked = match &self.read(bounds, &[])[1] {
             Answer::Good(picked) => picked.clone(),
             refused => panic!("{refused:?}, {self:02x?}, {bounds:02x?}"),
@@ -59,7 +59,7 @@ impl Point {
         let answers = self.read(bounds, &picked);
         self.hold(bounds, &picked, &answers);
         match &answers[0] {
-            Answer::Good(sheet) => listed(&self.table, sheet),
+            Answer::Good(sheet) => listed(sheet),
             refused => panic!("{refused:?}"),
         }
     }

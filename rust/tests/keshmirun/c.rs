@@ -46,6 +46,24 @@ fn as_the_header_has_it() {
 #[test]
 fn the_same_numbers() {
     let any_reply = Room::MARKING.max(Room::SHEET).max(Room::CHOICE);
+    let numbers = [
+        ("MOST_NODES", MOST_NODES),
+        ("MOST_EDGES", MOST_EDGES),
+        ("Room::CHOICE", Room::CHOICE),
+        ("Room::MARKING", Room::MARKING),
+        ("Room::SHEET", Room::SHEET),
+        ("Room::CHOICE", Room::CHOICE),
+        ("any reply", any_reply),
+        ("NO_NODE", usize::from(NO_NODE)),
+    ];
+    let lines: String = numbers.iter().map(|(name, number)| format!("{name} {number}\n")).collect();
+    assert_eq!(printed("numbers", &[compiled("numbers.c")]), lines);
+}
+
+/// The limits, and the kinds of nodes and edges and the refusals, each of these with what its place is.
+#[test]
+fn all_the_same_numbers() {
+    let any_reply = Room::MARKING.max(Room::SHEET).max(Room::CHOICE);
     let limits = [
         ("MOST_NODES", MOST_NODES),
         ("MOST_EDGES", MOST_EDGES),
@@ -68,7 +86,7 @@ fn the_same_numbers() {
     let edges = [EdgeKind::Control, EdgeKind::Object].map(|kind| format!("{kind} {}\n", kind.number()));
     let refusals = (1..=18).map(|number| format!("{} {number}\n", Refusal { number, place: 0 }.at()));
     let lines: String = limits.chain(kinds).chain(edges).chain(refusals).collect();
-    assert_eq!(printed("numbers", &[compiled("numbers.c")]), lines);
+    assert_eq!(printed("all_numbers", &[compiled("all_numbers.c")]), lines);
 }
 
 /// Whichever library the linker looks into first.

@@ -3,16 +3,18 @@
 //! of the paper. Then random events: sheets are in that order and have the reading's ends; values arrive at each stock by last edge and paths; picks are the
 //! second way's (`common/second.rs`) and the reading's, and others than those among ends by last edge.
 
-use crate::common::arrivals::{self, by_edge, End};
+#![allow(clippy::drop_copy)] // what is drawn gives its number back, which not every test asks for
+
+use crate::common::arrivals::{self, by_edge};
 use crate::common::drawn::*;
 use crate::common::held::AROUND;
 use crate::common::points::{Walk, BUDGET};
 use crate::common::second::Second;
 use crate::common::vectors::Operation;
 use crate::common::{answered, pairings, rounds, steps};
-use crate::events::{self, Day};
+use crate::events;
 use keshmirun::Reason::{Acceptable, Competing, Destinations, Forks, NoEnd, OwnDestination};
-use keshmirun::{bounds_list, Choice, Terms, Values, NO_BOUNDS, NO_NODE};
+use keshmirun::{bounds_list, Terms, NO_BOUNDS, NO_NODE};
 use reading::random::{Event, Parts, Rng};
 use reading::{Answer, Board};
 use std::collections::BTreeSet;
@@ -41,7 +43,7 @@ fn good(bytes: &[u8]) -> Answer {
 #[test]
 fn the_small_event() {
     let marking = vec![0, 15, 1, 0, 2, 0, 0, 0, 7, 0, 0, 0, 9, 0, 0, 0, 1];
-    let point = Point { table: events::small().unwrap().into_bytes(), marking, guards: vec![1; 5] };
+    let point = Point { table: events::small().table, marking, guards: vec![1; 5] };
     let (at_pin, at_buffer) = ([4, 1, 0, 0, 0, 7, 2, 2, 0, 4, 3, 1, 2, 4], [3, 1, 0, 0, 0, 7, 1, 2, 1, 3]);
     assert_eq!(point.sheet(&NO_BOUNDS), [&[0, 26, 1, 2][..], &at_pin, &at_buffer].concat());
     [(NO_NODE, 0), (5, 0), (4, 0), (6, 1)].iter().for_each(|(node, end)| point.assert_pick(*node, good(&[*end])));
@@ -165,7 +167,7 @@ fn twenty_ends() {
     let all: Vec<u8> = (0..20).collect();
     let ample = four_lists(5, 20);
     let lines: Vec<_> = by_list.iter().map(|edge| (*edge, Some(u32::from(*edge)), 1)).collect();
-    assert_eq!(listed(&ample.point().table, &ample.point().sheet(&NO_BOUNDS)), lines);
+    assert_eq!(listed(&ample.point().sheet(&NO_BOUNDS)), lines);
     let arrived: Vec<(u8, u32)> = (0..20).map(|result| (3 - result as u8 % 4, result)).collect();
     ample.point().assert_step(&all, ample.holding(&arrived, &[]));
     ample.point().assert_pick(NO_NODE, good(&all));
@@ -211,8 +213,8 @@ fn seats_and_their_match() {
 fn seats_of_two_matches_in_turns() {
     let (a, b) = (4, 5);
     let mut hall = Drawing::default();
-    let _seats = [a, b, a, b].map(|game| hall.parts.add_pin(INPUT_PIN, game, 1, 1));
-    let _games = [a, b].map(|_| hall.node(ACTION, 0));
+    [a, b, a, b].iter().for_each(|game| drop(hall.parts.add_pin(INPUT_PIN, *game, 1, 1)));
+    [a, b].iter().for_each(|_| drop(hall.node(ACTION, 0)));
     for (player, seat) in [(13, 3), (11, 1), (12, 2), (10, 0)] {
         hall.result(player, seat);
     }
@@ -412,7 +414,7 @@ fn a_round_for_another_list() {
 #[test]
 fn the_lowest_that_competes() {
     let mut desk = Drawing::default();
-    let _lists = [(); 5].map(|()| desk.node(BUFFER, 2));
+    (0..5).for_each(|_| drop(desk.node(BUFFER, 2)));
     let queue = desk.queue(&[7]);
     desk.edge(OBJECT, queue, 2);
     desk.edge(OBJECT, queue, 1);
@@ -439,7 +441,7 @@ fn the_lowest_that_competes() {
 fn forks_and_full_lists() {
     let forked = |rooms: [u8; 2]| {
         let mut desk = Drawing::default();
-        let _lists = rooms.map(|room| desk.node(BUFFER, room));
+        rooms.iter().for_each(|room| drop(desk.node(BUFFER, *room)));
         let forks = [desk.node(FORK, 0), desk.node(FORK, 0)];
         desk.result(7, forks[1]);
         desk.result(8, forks[0]);
@@ -521,16 +523,21 @@ fn reasons_as_before() {
 /// The example's day when its round has been called and a fifth player waits: seats and reserve (3 to 7), match A (10) and its pins, match B (15) and its pins.
 #[test]
 fn the_day() {
-    let Day { table, to_reserve, call_round, .. } = events::day().unwrap();
-    let mut guards = table.guards();
-    guards.close(to_reserve).unwrap();
-    let mut marking = table.start(&Values::of([[40, 17, 23, 8, 31]])).unwrap();
+    let table = events::day().table;
+    let mut guards = [1; 40];
+    guards[events::TO_RESERVE] = 0;
+    let step = |marking: &[u8], taken: &[u8]| answered(|out| keshmirun::step(&table, marking, Terms::new(&guards), taken, out));
+    let bytes = |answer: Answer| match answer {
+        Answer::Good(bytes) => bytes,
+        refused => panic!("{refused:?}"),
+    };
+    let mut marking = bytes(answered(|out| keshmirun::start(&table, &events::list(&[40, 17, 23, 8, 31]), out)));
     // the seats are ends 0 to 3, and the call of the round is end 4, where it is offered
     for taken in [&[0, 4][..], &[1], &[2], &[3]] {
-        marking = table.step(&marking, &guards, &Choice::new(taken).unwrap()).unwrap();
+        marking = bytes(step(&marking, taken));
     }
-    let marking = table.finish(&marking, call_round, &Values::NONE).unwrap().into_bytes();
-    let point = Point { table: table.into_bytes(), marking, guards: vec![1; 40] };
+    let marking = bytes(answered(|out| keshmirun::finish(&table, &marking, 8, &[], out)));
+    let point = Point { table: table.clone(), marking, guards: vec![1; 40] };
     point.assert_lines(&[
         (3, 2, Some(31), &[&[1, 2]]),
         (4, 3, Some(31), &[&[1, 3]]),
@@ -577,9 +584,9 @@ impl Points {
 }
 
 /// The ends of the engine's sheet.
-fn ends_of(Event { table, marking, guards, bounds, .. }: &Event) -> Vec<End> {
+fn ends_of(Event { table, marking, guards, bounds, .. }: &Event) -> Vec<arrivals::End> {
     match answered(|out| keshmirun::sheet(table, marking, Terms::new(guards).with_bounds(bounds), out)) {
-        Answer::Good(sheet) => arrivals::ends(table, &sheet),
+        Answer::Good(sheet) => decoded(&sheet),
         refused => panic!("{refused:?}, {table:02x?}, {marking:02x?}"),
     }
 }
@@ -591,22 +598,23 @@ fn random_sheets() {
     let (mut regrouped, mut on_one_edge) = (0, 0);
     for _ in 0..24_000 {
         let (event, _) = points.next(&mut rng);
+        let edges = Parts::of(&event.table).unwrap().edges;
+        let target = |end: &arrivals::End| edges[usize::from(end.0)][2];
         let ends = ends_of(&event);
-        let order = |end: &'_ End| (end.target, end.edge, end.paths.clone());
-        assert!(ends.windows(2).all(|pair| order(&pair[0]) < order(&pair[1])), "{event:02x?}");
+        assert!(ends.windows(2).all(|pair| (target(&pair[0]), pair[0].0, &pair[0].2) < (target(&pair[1]), pair[1].0, &pair[1].2)), "{event:02x?}");
         let Event { table, marking, guards, bounds, .. } = &event;
         let read = match reading::sheet_within(table, marking, guards, bounds, ROOM, BUDGET) {
-            Some(Answer::Good(sheet)) => arrivals::ends(table, &sheet),
+            Some(Answer::Good(sheet)) => decoded(&sheet),
             refused => panic!("{refused:?}, {event:02x?}"),
         };
         let ungrouped = by_edge(&ends);
         assert_eq!(ungrouped, by_edge(&read), "{event:02x?}");
-        for node in ends.iter().map(|end| end.target).collect::<BTreeSet<u8>>() {
-            let at_node = |ends: &[End]| ends.iter().filter(|end| end.target == node).cloned().collect::<Vec<_>>();
+        for node in ends.iter().map(target).collect::<BTreeSet<u8>>() {
+            let at_node = |ends: &[arrivals::End]| ends.iter().filter(|end| target(end) == node).cloned().collect::<Vec<_>>();
             assert_eq!(at_node(&ends), at_node(&ungrouped), "node {node}, {event:02x?}");
         }
         regrouped += usize::from(ends != ungrouped);
-        on_one_edge += usize::from(ends != ungrouped && ends.windows(2).any(|pair| pair[0].edge == pair[1].edge));
+        on_one_edge += usize::from(ends != ungrouped && ends.windows(2).any(|pair| pair[0].0 == pair[1].0));
     }
     assert!(regrouped >= 7_000 && on_one_edge >= 1_500, "{regrouped}, {on_one_edge}");
 }
@@ -626,12 +634,12 @@ fn random_steps() {
             assert_eq!(answer, board.step(&choice, ROOM), "{choice:?}, {event:02x?}");
             if let Answer::Good(next) = answer {
                 let chosen: Vec<_> = choice.iter().map(|end| ends[usize::from(*end)].clone()).collect();
-                assert_eq!(next, arrivals::after(table, marking, &chosen), "{choice:?}, {event:02x?}");
+                assert_eq!(next, arrivals::after(&parts, marking, &chosen), "{choice:?}, {event:02x?}");
                 taken += 1;
                 at_other_numbers += usize::from(chosen.iter().zip(&choice).any(|(end, number)| ungrouped[usize::from(*number)] != *end));
                 let is_stock = |node: u8| matches!(parts.nodes[usize::from(node)][0], INPUT_PIN | BUFFER | OUTGOING_PARAMETER);
-                let meet = |one: &End, other: &End| one.target == other.target && is_stock(one.target) && one.value != other.value;
-                arrived += usize::from(chosen.windows(2).any(|pair| meet(&pair[0], &pair[1])));
+                let arriving: Vec<_> = chosen.iter().map(|(edge, value, _)| (parts.edges[usize::from(*edge)][2], value)).collect();
+                arrived += usize::from(arriving.windows(2).any(|pair| pair[0].0 == pair[1].0 && is_stock(pair[0].0) && pair[0].1 != pair[1].1));
             }
         }
     }

@@ -2,6 +2,8 @@
 //! places; the longest markings and the longest sheet; and joins of many edges. Every answer is the plain reading's too. Random larger events stand with each
 //! operation.
 
+#![allow(clippy::redundant_clone)] // a point that is varied for the last time is varied as before
+
 use crate::common::drawn::*;
 use crate::common::held::AROUND;
 use crate::common::longest::{stock, with_action, Longest, FULL, TOKENS};
@@ -305,10 +307,9 @@ fn bounds_of_200_edges() {
     let sheet = |edge: u8, low: u32, high: u32| point.answer(Sheet, &bounds_list(&[(edge, low..=high)]), 0, &[]);
     let whole = Answer::Good(point.sheet(&NO_BOUNDS));
     assert_eq!(sheet(199, 7, 7), whole);
-    let ends = |edge: u8, low: u32, high: u32| listed(&point.table, &point.sheet(&bounds_list(&[(edge, low..=high)])));
-    assert_eq!(ends(199, 8, 9), [(198, Some(7), 1)]);
-    assert_eq!(ends(198, 0, 6), [(199, Some(7), 2)]);
-    assert_eq!(ends(196, 8, 8), []);
+    assert_eq!(listed(&point.sheet(&bounds_list(&[(199, 8..=9)]))), [(198, Some(7), 1)]);
+    assert_eq!(listed(&point.sheet(&bounds_list(&[(198, 0..=6)]))), [(199, Some(7), 2)]);
+    assert_eq!(listed(&point.sheet(&bounds_list(&[(196, 8..=8)]))), []);
     assert_eq!(sheet(194, 8, 9), whole);
     for edge in [195, 200, 201, 255] {
         assert_eq!(sheet(edge, 0, u32::MAX), refused(18, 0), "edge {edge}");
@@ -392,7 +393,7 @@ fn step_with_the_longest() {
     assert_in_any_room(Finish, action, [&table, &marking, &[], &[], &[]], read, &finished);
 
     // the last buffer is full now, so no more can go there
-    let full = Point { marking: stepped, ..point };
+    let full = Point { marking: stepped, ..point.clone() };
     full.assert_step(&[0], refused(12, 119));
     full.assert_pick(119, refused(13, 119));
 }
@@ -445,7 +446,7 @@ fn the_longest_that_has_ended() {
     assert_eq!(ended.len(), 4 + 118 * 65 + 200);
     let read = reading::step(&point.table, &point.marking, &point.guards, &NO_BOUNDS, &[0], ROOM);
     assert_in_any_room(Step, 0, point.inputs(&NO_BOUNDS, &[0]), read, &ended);
-    let after = Point { marking: ended, ..point };
+    let after = Point { marking: ended, ..point.clone() };
     assert_eq!(after.answer(Sheet, &NO_BOUNDS, 0, &[]), refused(6, 0));
 }
 
@@ -503,7 +504,7 @@ fn many(edges: usize, served: usize, past: usize) -> Point {
 /// The last edges of the ends, or the refusal.
 fn ends(point: &Point) -> Result<Vec<u8>, Answer> {
     match point.answer(Sheet, &NO_BOUNDS, 0, &[]) {
-        Answer::Good(sheet) => Ok(shown(&point.table, &sheet).ends().map(|end| end.last_edge().number()).collect()),
+        Answer::Good(sheet) => Ok(listed(&sheet).into_iter().map(|(edge, ..)| edge).collect()),
         refused => Err(refused),
     }
 }
@@ -664,7 +665,7 @@ fn random_joins() {
         match &answer {
             Answer::Good(sheet) => {
                 good[size] += 1;
-                through += usize::from(shown(table, sheet).ends().any(|end| end.paths().len() > 1));
+                through += usize::from(decoded(sheet).iter().any(|(_, _, paths)| paths.len() > 1));
                 point.answer(Pick, &NO_BOUNDS, NO_NODE, &[]);
                 point.answer(Step, &NO_BOUNDS, 0, &[]);
             }

@@ -2,7 +2,9 @@
 //! they share, over and over.
 
 mod common;
-use day::example::events;
+#[path = "../../examples/events/mod.rs"]
+mod events;
+use day::day::built;
 
 mod app;
 mod archive;
@@ -15,6 +17,7 @@ mod finish;
 mod formats;
 mod larger;
 mod make;
+mod no_archive;
 mod one_round;
 mod own_names;
 mod pick;

@@ -5,7 +5,6 @@
 use crate::common::limits;
 use crate::common::longest::Longest;
 use crate::common::points::{varied, Walk, BUDGET};
-use keshmirun::{Choice, End, Path as Edges, Sheet, Table};
 use reading::random::{Event, Rng};
 use reading::{pick_within, sheet_within, Answer, NO_BOUNDS, NO_NODE};
 use std::collections::BTreeMap;
@@ -65,15 +64,35 @@ fn parted(stream: &[u8]) -> (&[u8], &[u8]) {
     }
 }
 
-/// "per end, in decimal: end, last edge, target, value or `-`, paths".
-fn lines(sheet: &Sheet<Vec<u8>>) -> String {
-    let commas = |path: Edges| path.edges().map(|edge| edge.to_string()).collect::<Vec<_>>().join(",");
-    let line = |end: End| {
-        let value = end.value().map_or(String::from("-"), |value| value.to_string());
-        let paths: String = end.paths().map(|path| format!(" {}", commas(path))).collect();
-        format!("{} {} {} {value}{paths}\n", end.id(), end.last_edge(), end.target())
-    };
-    sheet.ends().map(line).collect()
+fn commas(numbers: &[u8]) -> String {
+    match numbers {
+        [] => String::from("-"),
+        _ => numbers.iter().map(u8::to_string).collect::<Vec<_>>().join(","),
+    }
+}
+
+/// "per end, in decimal: end, last edge, target, value or `-`, paths", from a sheet behind its head.
+#[allow(clippy::format_push_string)] // a sheet has few lines
+fn lines(table: &[u8], ends: u8, mut sheet: &[u8]) -> String {
+    let mut text = String::new();
+    for end in 0..ends {
+        let (edge, paths) = (sheet[0], sheet[6]);
+        let target = table[5 + 4 * usize::from(table[3]) + 4 * usize::from(edge) + 2];
+        let value = match sheet[1] {
+            0 => String::from("-"),
+            _ => u32::from_be_bytes([sheet[2], sheet[3], sheet[4], sheet[5]]).to_string(),
+        };
+        text += &format!("{end} {edge} {target} {value}");
+        sheet = &sheet[7..];
+        for _ in 0..paths {
+            let (path, rest) = sheet[1..].split_at(usize::from(sheet[0]));
+            text += &format!(" {}", commas(path));
+            sheet = rest;
+        }
+        text += "\n";
+    }
+    assert!(sheet.is_empty());
+    text
 }
 
 /// The whole text for an input, and the refusal's number, 0 for none; `None` if the reading takes too long.
@@ -85,11 +104,10 @@ fn expected(input: &[u8]) -> Option<(String, u8)> {
         Answer::Refused { number, place } => return Some((format!("refused {number} {place}\n"), number)),
     };
     let choice = match pick_within(table, marking, guards, &NO_BOUNDS, NO_NODE, usize::MAX, BUDGET)? {
-        Answer::Good(choice) => Choice::new(&choice).expect("a choice"),
+        Answer::Good(choice) => choice,
         refused => panic!("a pick with no node named: {refused:?}"),
     };
-    let sheet = Sheet::new(&Table::new(table).expect("a table"), sheet).expect("a sheet of it");
-    Some((format!("ends {}\n{}pick {choice}\n", sheet.ends().len(), lines(&sheet)), 0))
+    Some((format!("ends {}\n{}pick {}\n", sheet[3], lines(table, sheet[3], &sheet[4..]), commas(&choice)), 0))
 }
 
 /// Compares, and answers the refusal's number.

@@ -3,14 +3,22 @@
 use keshmirun::{EdgeId, EndId, NodeId, Place, Refusal};
 use std::collections::BTreeSet;
 
-/// The paper's eighteen, and the crate's own for what is no sheet; all other numbers mean none.
+#[test]
+fn eighteen_meanings() {
+    let meanings: BTreeSet<&str> = (0..=18).map(|number| Refusal { number, place: 0 }.meaning()).collect();
+    assert_eq!(meanings.len(), 19, "{meanings:?}");
+    let none = Refusal { number: 0, place: 0 }.meaning();
+    assert!((19..=255).all(|number| Refusal { number, place: 0 }.meaning() == none));
+}
+
+/// The paper's eighteen, and one for all other numbers, of which the crate's own for what is no sheet is one.
 #[test]
 fn nineteen_meanings() {
     let meaning = |number: u8| Refusal { number, place: 0 }.meaning();
     let meanings: BTreeSet<&str> = (0..=18).chain([Refusal::NOT_A_SHEET.number]).map(meaning).collect();
-    assert_eq!(meanings.len(), 20, "{meanings:?}");
+    assert_eq!(meanings.len(), 19, "{meanings:?}");
     assert_eq!(Refusal::NOT_A_SHEET.number, 255);
-    assert!((19..255).all(|number| meaning(number) == meaning(0)));
+    assert!((19..=255).all(|number| meaning(number) == meaning(0)));
 }
 
 /// By each number's row in the paper; the crate's own has no place.

@@ -4,17 +4,21 @@
 
 #[path = "../../examples/events/full.rs"]
 mod full;
+#[allow(clippy::module_inception)]
 #[path = "../../examples/events/stack.rs"]
-mod painted;
+mod stack;
 
 use crate::common::longest::Longest;
 use crate::common::vectors::{all, Call};
 use crate::common::{limits, points};
+use crate::events;
 use full::Full;
 use keshmirun::{bounds_list, Bounds, Marking, Reason, Refusal, Room, Terms, MOST_EDGES, MOST_ENDS, MOST_NODES, NO_NODE};
-use painted::taken;
 use reading::random::{Event, Rng};
+use stack::taken;
 
+/// What a call may take, in bytes.
+const MOST: usize = 32_768;
 /// Less than any call takes that lays out a board: the paint is seen to have been reached.
 const BOARD: usize = 8_192;
 
@@ -41,7 +45,7 @@ fn deepest_of_board(table: &[u8], marking: &[u8], terms: Terms) -> usize {
 #[track_caller]
 fn assert_fits(deepest: usize) {
     assert!(deepest > BOARD, "the paint was not reached: {deepest}");
-    assert!(deepest <= Room::STACK, "{deepest} bytes");
+    assert!(deepest <= MOST, "{deepest} bytes");
 }
 
 #[test]
@@ -52,6 +56,12 @@ fn outside_calls() {
         depth(|out| operation.make(*node, [table, marking, given, bounds, choice], out))
     });
     assert_fits(depths.max().unwrap());
+}
+
+/// What callers are told.
+#[test]
+fn the_most_that_is_told() {
+    assert_eq!(Room::STACK, MOST);
 }
 
 /// As callers are told: with twice that for a thread, room for the reply on its own stack.
@@ -99,25 +109,37 @@ fn deepest(table: &[u8], marking: &[u8], running: &[u8], action: u8, terms: Term
     check.max(start).max(finish).max(deepest_of_board(table, marking, terms))
 }
 
-/// An event that is at its limits: its ends, all at one node, are as many as there may be.
-fn assert_full_fits(full: &Full) {
-    let Full { table, action, end } = full;
-    let (marking, running, guards) = (full.marking(false), full.marking(true), table.guards());
-    let sheet = table.sheet(&Marking::new(table, &marking).unwrap(), &guards).unwrap();
-    assert_eq!(sheet.ends().filter(|listed| listed.target() == *end).count(), MOST_ENDS);
-    assert_fits(deepest(table.as_bytes(), &marking, &running, action.number(), Terms::from(&guards)));
-}
-
 #[test]
 fn at_the_limits() {
-    assert_full_fits(&full::limits().unwrap());
+    let (marking, running) = (events::limits_marking(false), events::limits_marking(true));
+    assert_fits(deepest(&events::limits().table, &marking, &running, 13, Terms::new(&[1; 64])));
 }
 
 #[test]
 fn in_the_largest_table() {
-    let full = full::larger().unwrap();
-    assert_eq!((full.table.nodes().len(), full.table.edges().len()), (MOST_NODES, MOST_EDGES));
-    assert_full_fits(&full);
+    let (table, terms) = (events::larger().table, Terms::new(&[1; MOST_EDGES]));
+    let (marking, running) = (events::larger_marking(false), events::larger_marking(true));
+    assert_eq!((usize::from(table[3]), usize::from(table[4])), (MOST_NODES, MOST_EDGES));
+    let mut sheet = [0; Room::SHEET];
+    assert!(keshmirun::sheet(&table, &marking, terms, &mut sheet).is_ok());
+    assert_eq!(sheet[3], 20);
+    assert_fits(deepest(&table, &marking, &running, 106, terms));
+}
+
+/// What is built is what is saved, with markings as long, and the ends, all at one node, are as many as there may be.
+#[track_caller]
+fn assert_as_saved(full: &Full, table: &[u8], marking: fn(bool) -> Vec<u8>, action: u8) {
+    assert_eq!((full.table.as_bytes(), full.action.number()), (table, action));
+    assert_eq!([false, true].map(|runs| full.marking(runs).len()), [false, true].map(|runs| marking(runs).len()));
+    let idle = full.marking(false);
+    let sheet = full.table.sheet(&Marking::new(&full.table, &idle).unwrap(), &full.table.guards()).unwrap();
+    assert_eq!(sheet.ends().filter(|listed| listed.target() == full.end).count(), MOST_ENDS);
+}
+
+#[test]
+fn built_as_saved() {
+    assert_as_saved(&full::limits().unwrap(), &events::limits().table, events::limits_marking, 13);
+    assert_as_saved(&full::larger().unwrap(), &events::larger().table, events::larger_marking, 106);
 }
 
 #[test]

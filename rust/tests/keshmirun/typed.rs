@@ -349,7 +349,7 @@ fn all_operations() {
 /// Guards, by themselves and with bounds, are taken as terms.
 #[test]
 fn guards_as_terms() {
-    let table = crate::events::small().unwrap();
+    let table = crate::built::small().unwrap();
     let marking = table.start(&Values::of([[7, 9]])).unwrap();
     let (mut guards, mut bounds) = (table.guards(), Bounds::none(&table));
     assert_eq!(table.sheet(&marking, &guards).unwrap().ends().len(), 2);

@@ -117,7 +117,7 @@ fn tables() {
 #[test]
 fn guards_and_bounds() {
     let records = overfull();
-    let good = crate::events::small().unwrap().into_bytes();
+    let good = crate::built::small().unwrap().into_bytes();
     let mut lengths = [0; 2];
     for seed in 0..200 {
         let mut rng = Rng::new(seed);

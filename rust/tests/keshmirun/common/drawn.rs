@@ -1,25 +1,25 @@
 //! Events drawn by hand, node by node and edge by edge, at one point; and what a sheet lists.
 
-use keshmirun::{EdgeKind, Kind, Room, Sheet, Table};
+use keshmirun::Room;
 use reading::random::Parts;
 use reading::Answer;
 
-pub const INITIAL: u8 = Kind::Initial.number();
-pub const ACTION: u8 = Kind::Action.number();
-pub const INPUT_PIN: u8 = Kind::InputPin.number();
-pub const OUTPUT_PIN: u8 = Kind::OutputPin.number();
-pub const BUFFER: u8 = Kind::CentralBuffer.number();
-pub const INCOMING_PARAMETER: u8 = Kind::IncomingParameter.number();
-pub const OUTGOING_PARAMETER: u8 = Kind::OutgoingParameter.number();
-pub const DECISION: u8 = Kind::Decision.number();
-pub const MERGE: u8 = Kind::Merge.number();
-pub const FORK: u8 = Kind::Fork.number();
-pub const JOIN: u8 = Kind::Join.number();
-pub const FLOW_FINAL: u8 = Kind::FlowFinal.number();
-pub const ACTIVITY_FINAL: u8 = Kind::ActivityFinal.number();
+pub const INITIAL: u8 = 1;
+pub const ACTION: u8 = 2;
+pub const INPUT_PIN: u8 = 3;
+pub const OUTPUT_PIN: u8 = 4;
+pub const BUFFER: u8 = 5;
+pub const INCOMING_PARAMETER: u8 = 6;
+pub const OUTGOING_PARAMETER: u8 = 7;
+pub const DECISION: u8 = 8;
+pub const MERGE: u8 = 9;
+pub const FORK: u8 = 10;
+pub const JOIN: u8 = 11;
+pub const FLOW_FINAL: u8 = 12;
+pub const ACTIVITY_FINAL: u8 = 13;
 
-pub const CONTROL: u8 = EdgeKind::Control.number();
-pub const OBJECT: u8 = EdgeKind::Object.number();
+pub const CONTROL: u8 = 0;
+pub const OBJECT: u8 = 1;
 
 /// Room for any reply.
 pub const ROOM: usize = Room::MARKING;
@@ -172,12 +172,25 @@ pub fn framed(body: &[u8]) -> Vec<u8> {
     [&(body.len() as u16).to_be_bytes()[..], body].concat()
 }
 
-/// The ends of a sheet of this table.
-pub fn shown<'a>(table: &[u8], sheet: &'a [u8]) -> Sheet<&'a [u8]> {
-    Sheet::new(&Table::new(table).expect("a table"), sheet).expect("a sheet of it")
+/// A sheet's ends: last edge, value, paths.
+pub fn decoded(sheet: &[u8]) -> Vec<(u8, Option<u32>, Vec<Vec<u8>>)> {
+    let mut ends = Vec::new();
+    let mut rest = &sheet[4..];
+    while let [edge, has_value, a, b, c, d, count, after @ ..] = rest {
+        let value = Some(u32::from_be_bytes([*a, *b, *c, *d])).filter(|_| *has_value == 1);
+        let mut paths = Vec::new();
+        rest = after;
+        for _ in 0..*count {
+            let (path, after) = rest[1..].split_at(usize::from(rest[0]));
+            paths.push(path.to_vec());
+            rest = after;
+        }
+        ends.push((*edge, value, paths));
+    }
+    ends
 }
 
-/// Last edge, value and number of paths of each.
-pub fn listed(table: &[u8], sheet: &[u8]) -> Vec<(u8, Option<u32>, usize)> {
-    shown(table, sheet).ends().map(|end| (end.last_edge().number(), end.value(), end.paths().len())).collect()
+/// The same with the number of paths alone.
+pub fn listed(sheet: &[u8]) -> Vec<(u8, Option<u32>, u8)> {
+    decoded(sheet).into_iter().map(|(edge, value, paths)| (edge, value, paths.len() as u8)).collect()
 }

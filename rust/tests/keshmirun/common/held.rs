@@ -37,7 +37,7 @@ impl Point {
 
     /// The values of the ends.
     pub fn values(&self, bounds: &[u8]) -> Vec<u32> {
-        shown(&self.table, &self.sheet(bounds)).ends().filter_map(|end| end.value()).collect()
+        listed(&self.sheet(bounds)).into_iter().filter_map(|(_, value, _)| value).collect()
     }
 
     /// The sheet has these ends.
@@ -68,7 +68,7 @@ impl Point {
     /// Of all sets of ends these are acceptable, first choice first, and no others. Pick takes the first, and for a node the first that has an end of it.
     pub fn assert_acceptable(&self, bounds: &[u8], choices: &[&[u8]]) {
         let parts = Parts::of(&self.table).unwrap();
-        let targets: Vec<u8> = shown(&self.table, &self.sheet(bounds)).ends().map(|end| end.target().number()).collect();
+        let targets: Vec<u8> = listed(&self.sheet(bounds)).iter().map(|(edge, ..)| parts.edges[usize::from(*edge)][2]).collect();
         let is_taken = |choice: &Vec<u8>| matches!(self.answer(Operation::Step, bounds, 0, choice), Answer::Good(_));
         assert_eq!(sets(targets.len()).filter(is_taken).collect::<Vec<_>>(), choices, "{self:02x?}, {bounds:02x?}");
         for node in (0..=parts.nodes.len() as u8).chain([NO_NODE]) {

@@ -1,8 +1,19 @@
 //! Events near the paper's sizes, a little below and a little above: 64 offers, 8 paths in an offer, 20 ends. Some stand in the largest table.
 
-use super::drawn::{framed, BUFFER, CONTROL, DECISION, FLOW_FINAL, FORK, INCOMING_PARAMETER, INITIAL, JOIN, MERGE, OBJECT};
 use keshmirun::{MOST_EDGES, MOST_NODES};
 use reading::random::{marking, Event, Parts, Rng};
+
+const INITIAL: u8 = 1;
+const BUFFER: u8 = 5;
+const PARAMETER: u8 = 6;
+const DECISION: u8 = 8;
+const MERGE: u8 = 9;
+const FORK: u8 = 10;
+const JOIN: u8 = 11;
+const FLOW_FINAL: u8 = 12;
+
+const CONTROL: u8 = 0;
+const OBJECT: u8 = 1;
 
 /// An event near one of the sizes, in a random numbering. All its sources are full, as a rule.
 pub fn event(rng: &mut Rng) -> Event {
@@ -35,7 +46,7 @@ pub fn event(rng: &mut Rng) -> Event {
 
 /// Finals up to the most nodes, and up to the most edges those of a parameter that is empty: nothing more is on offer.
 fn fill_up(parts: &mut Parts) {
-    let (from, to) = (parts.add_node(INCOMING_PARAMETER, 1), parts.add_node(FLOW_FINAL, 0));
+    let (from, to) = (parts.add_node(PARAMETER, 1), parts.add_node(FLOW_FINAL, 0));
     while parts.nodes.len() < MOST_NODES {
         parts.add_node(FLOW_FINAL, 0);
     }
@@ -47,7 +58,7 @@ fn fill_up(parts: &mut Parts) {
 /// The marking in which each buffer holds a value and each initial node's edge some tokens.
 pub fn full(rng: &mut Rng, parts: &Parts) -> Vec<u8> {
     let mut body = vec![1, 0];
-    for node in parts.nodes.iter().filter(|node| [BUFFER, INCOMING_PARAMETER].contains(&node[0])) {
+    for node in parts.nodes.iter().filter(|node| [BUFFER, PARAMETER].contains(&node[0])) {
         let held = if node[0] == BUFFER { rng.between(1, usize::from(node[3])) } else { 0 };
         body.push(held as u8);
         body.extend((0..4 * held).map(|_| rng.byte()));
@@ -57,7 +68,8 @@ pub fn full(rng: &mut Rng, parts: &Parts) -> Vec<u8> {
             body.push(rng.between(1, 3) as u8);
         }
     }
-    framed(&body)
+    let length = (body.len() as u16).to_be_bytes();
+    [&length[..], &body].concat()
 }
 
 /// A source of the edges of this kind.

@@ -12,7 +12,6 @@ pub mod programs;
 pub mod rewritten;
 pub mod rounds;
 pub mod second;
-pub mod stand;
 pub mod steps;
 pub mod vectors;
 pub mod walked;

@@ -1,26 +1,69 @@
 //! A second way to pick and to tell why not, written apart from the plain reading: makers and sets of ends are words, the three rules are counts over sets of
 //! ends, and a search leaves a branch where no choice that is asked for goes on. It takes good tables, live markings of them, legal guards and good bounds
-//! lists, whose fields it has from the crate's views.
+//! lists.
 
-use super::drawn::{ACTION, BUFFER, DECISION, FORK, INPUT_PIN, JOIN, OUTGOING_PARAMETER};
-use super::stand::Stand;
-use keshmirun::{Bounds, Table};
 use reading::random::Parts;
 
+const ACTION: u8 = 2;
+const INPUT_PIN: u8 = 3;
+const DECISION: u8 = 8;
+const FORK: u8 = 10;
+const JOIN: u8 = 11;
+
 fn is_object_node(kind: u8) -> bool {
-    (INPUT_PIN..=OUTGOING_PARAMETER).contains(&kind)
+    (3..=7).contains(&kind)
 }
 
 fn is_control_node(kind: u8) -> bool {
-    (DECISION..=JOIN).contains(&kind)
+    (8..=11).contains(&kind)
+}
+
+/// What a marking says: per node its stock's size, its oldest value and whether it runs, per edge its tokens.
+struct Held {
+    stock: Vec<u8>,
+    oldest: Vec<Option<u32>>,
+    runs: Vec<bool>,
+    tokens: Vec<u8>,
+}
+
+impl Held {
+    fn read(parts: &Parts, marking: &[u8]) -> Held {
+        let (nodes, edges) = (parts.nodes.len(), parts.edges.len());
+        let mut held = Held { stock: vec![0; nodes], oldest: vec![None; nodes], runs: vec![false; nodes], tokens: vec![0; edges] };
+        let mut place = 4;
+        for (node, [kind, ..]) in parts.nodes.iter().enumerate() {
+            if is_object_node(*kind) {
+                held.stock[node] = marking[place];
+                held.oldest[node] = Some(number(&marking[place + 1..])).filter(|_| marking[place] > 0);
+                place += 1 + 4 * usize::from(marking[place]);
+            } else if *kind == ACTION {
+                held.runs[node] = marking[place] == 1;
+                place += 1;
+            }
+        }
+        for (edge, [_, source, ..]) in parts.edges.iter().enumerate() {
+            if parts.nodes[usize::from(*source)][0] <= ACTION {
+                held.tokens[edge] = marking[place];
+                place += 1;
+            }
+        }
+        held
+    }
+}
+
+/// The number that these bytes begin with, 0 where they are too few.
+fn number(bytes: &[u8]) -> u32 {
+    match bytes {
+        [a, b, c, d, ..] => u32::from_be_bytes([*a, *b, *c, *d]),
+        _ => 0,
+    }
 }
 
 /// Per edge the least and the greatest value that may go over it.
-fn limits(table: &[u8], bounds: &[u8]) -> Vec<(u32, u32)> {
-    let table = Table::new(table).expect("a table");
-    let mut limits = vec![(0, u32::MAX); table.edges().len()];
-    for (edge, values) in Bounds::new(&table, bounds).expect("bounds of it").entries() {
-        limits[edge.index()] = values.into_inner();
+fn limits(edges: usize, bounds: &[u8]) -> Vec<(u32, u32)> {
+    let mut limits = vec![(0, u32::MAX); edges];
+    for entry in bounds[4..].chunks(9) {
+        limits[usize::from(entry[0])] = (number(&entry[1..]), number(&entry[5..]));
     }
     limits
 }
@@ -51,7 +94,7 @@ struct Asked<'a> {
 
 pub struct Second {
     parts: Parts,
-    held: Stand,
+    held: Held,
     guards: Vec<u8>,
     limits: Vec<(u32, u32)>,
     offers: Vec<Offer>,
@@ -80,9 +123,9 @@ impl Second {
     fn ordered(table: &[u8], marking: &[u8], guards: &[u8], bounds: &[u8], group: fn(&Second, usize) -> usize) -> Option<Second> {
         let parts = Parts::of(table)?;
         let mut second = Second {
-            held: Stand::read(table, marking),
+            held: Held::read(&parts, marking),
             guards: guards.to_vec(),
-            limits: limits(table, bounds),
+            limits: limits(parts.edges.len(), bounds),
             offers: Vec::new(),
             rivals: Vec::new(),
             made: vec![None; parts.edges.len()],
@@ -114,10 +157,6 @@ impl Second {
         usize::from(self.parts.edges[self.offers[offer].edge][2])
     }
 
-    fn oldest(&self, node: usize) -> Option<u32> {
-        self.held.stocks[node].first().copied()
-    }
-
     fn incoming(&self, node: usize) -> Vec<usize> {
         (0..self.parts.edges.len()).filter(|edge| usize::from(self.parts.edges[*edge][2]) == node).collect()
     }
@@ -137,7 +176,7 @@ impl Second {
                 JOIN => self.add_ways(&lists, 0, &mut Vec::new(), &mut ways),
                 _ => ways = lists.concat().into_iter().map(|offer| vec![offer]).collect(),
             }
-        } else if (self.held.tokens[edge] > 0 || self.oldest(source).is_some()) && self.may_go(edge, self.oldest(source)) {
+        } else if (self.held.tokens[edge] > 0 || self.held.stock[source] > 0) && self.may_go(edge, self.held.oldest[source]) {
             ways.push(Vec::new());
         }
         let made: Option<Vec<usize>> = ways.into_iter().map(|from| self.add(edge, from)).collect();
@@ -180,7 +219,7 @@ impl Second {
             return None;
         }
         let value = match from[..] {
-            [] => self.oldest(self.source(edge)),
+            [] => self.held.oldest[self.source(edge)],
             _ => from.iter().find_map(|offer| self.offers[*offer].value),
         };
         let makers = from.iter().fold(1 << number, |makers, offer| makers | self.offers[*offer].makers);
@@ -247,7 +286,7 @@ impl Second {
                 edges.map(|edge| rule(at, self.set(|end| self.offers[end].edge == edge), 1, 1)).collect()
             }
             INPUT_PIN => vec![rule(self.ends_of(owner as u8), at, lower, upper)],
-            BUFFER | OUTGOING_PARAMETER => vec![rule(at, at, 0, upper - self.held.stocks[node].len() as u32)],
+            5 | 7 => vec![rule(at, at, 0, upper - u32::from(self.held.stock[node]))],
             _ => Vec::new(),
         }
     }
