@@ -6,9 +6,17 @@
 // line is `levels` and how many states the search of why visits at each of the four levels before the last.
 #![tactic(auto)]
 
-ghost use Rattle.std.specs.Prelude.{◌≤◌, ◌<◌, length};
+ghost use Rattle.std.specs.Prelude.{◌≤◌, ◌<◌, length, IfOk};
 
-use libc::{STDIN_FILENO, STDOUT_FILENO};
+use intake::read_full;
+use std::io;
+use std::io::{BufReader, LineWriter, Read, Write};
+
+// How much is read ahead, and how much of a line is kept, before the system is asked.
+const AHEAD: usize = 65536;
+
+// A slice's length has two bytes.
+const LONGEST: usize = 65536;
 
 // How many calls are answered at most: a program ends.
 const MOST_CALLS: usize = 1000000;
@@ -32,9 +40,8 @@ const LEVELS: u8 = 8;
 // The level at which why asks what pick does, past the first.
 const LAST: usize = 4;
 
-fn number(n: u64) {
-    io::print_decimal(STDOUT_FILENO, n);
-    io::write_all(STDOUT_FILENO, b" ");
+fn number(to: &mut impl Write, n: u64) -> io::Result<()> {
+    write!(to, "{n} ")
 }
 
 // A hexadecimal digit.
@@ -48,72 +55,80 @@ fn digit(n: u8) -> u8
 }
 
 // The bytes in hex.
-fn hex(bytes: &[u8]) {
-    let mut i: usize = 0;
-    while i < bytes.len() {
-        let x = bytes[i];
-        let pair = [digit(x / 16), digit(x % 16)];
-        io::write_all(STDOUT_FILENO, &pair);
-        i += 1;
+fn hex(to: &mut impl Write, bytes: &[u8]) -> io::Result<()> {
+    for x in bytes {
+        let pair = [digit(*x / 16), digit(*x % 16)];
+        to.write_all(&pair)?;
     }
+    Ok(())
 }
 
 // The answer word and its reply as a line.
-fn line(word: u64, out: &[u8]) {
-    number(wire::refusal_in(word) as u64);
-    number(wire::place_in(word) as u64);
+fn line(to: &mut impl Write, word: u64, out: &[u8]) -> io::Result<()> {
+    number(to, wire::refusal_in(word) as u64)?;
+    number(to, wire::place_in(word) as u64)?;
     let n = wire::length_in(word);
     if n == 0 {
-        io::write_all(STDOUT_FILENO, b"-\n");
-        return;
+        return to.write_all(b"-\n");
     }
     if n <= out.len() {
-        hex(&out[..n]);
+        hex(to, &out[..n])?;
     }
-    io::write_all(STDOUT_FILENO, b"\n");
+    to.write_all(b"\n")
 }
 
 // The number of states as a line.
-fn visited(states: u64) {
-    io::write_all(STDOUT_FILENO, b"visits ");
-    io::print_decimal(STDOUT_FILENO, states);
-    io::write_all(STDOUT_FILENO, b"\n");
+fn visited(to: &mut impl Write, states: u64) -> io::Result<()> {
+    write!(to, "visits {states}\n")
 }
 
 // The number of states at a level, k levels past the first.
-fn level(table: &[u8], marking: &[u8], guards: &[u8], bounds: &[u8], node: u8, k: usize) {
-    io::write_all(STDOUT_FILENO, b" ");
-    io::print_decimal(
-        STDOUT_FILENO,
-        keshmirun::visits(table, marking, guards, bounds, node, k),
-    );
+fn level(
+    to: &mut impl Write,
+    table: &[u8],
+    marking: &[u8],
+    guards: &[u8],
+    bounds: &[u8],
+    node: u8,
+    k: usize,
+) -> io::Result<()> {
+    let states = keshmirun::visits(table, marking, guards, bounds, node, k);
+    write!(to, " {states}")
 }
 
 // The number of states at each level before the last as a line.
-fn climbed(table: &[u8], marking: &[u8], guards: &[u8], bounds: &[u8], node: u8) {
-    io::write_all(STDOUT_FILENO, b"levels");
-    level(table, marking, guards, bounds, node, 0);
-    level(table, marking, guards, bounds, node, 1);
-    level(table, marking, guards, bounds, node, 2);
-    level(table, marking, guards, bounds, node, 3);
-    io::write_all(STDOUT_FILENO, b"\n");
+fn climbed(
+    to: &mut impl Write,
+    table: &[u8],
+    marking: &[u8],
+    guards: &[u8],
+    bounds: &[u8],
+    node: u8,
+) -> io::Result<()> {
+    to.write_all(b"levels")?;
+    level(to, table, marking, guards, bounds, node, 0)?;
+    level(to, table, marking, guards, bounds, node, 1)?;
+    level(to, table, marking, guards, bounds, node, 2)?;
+    level(to, table, marking, guards, bounds, node, 3)?;
+    to.write_all(b"\n")
 }
 
 // Reads a slice into space and answers how many bytes there are.
-fn slice(space: &mut [u8]) -> usize
-    ensures { result ≤ length space.new }
+fn slice(from: &mut impl Read, space: &mut [u8]) -> io::Result<usize>
+    ensures { IfOk result (λ n. n ≤ length space.new) }
 {
     let mut head = [0u8; 2];
-    io::read_full(STDIN_FILENO, &mut head);
+    read_full(from, &mut head)?;
     let n = wire::wide(head[0]) * 256 + wire::wide(head[1]);
     if space.len() < n {
-        return 0;
+        return Ok(0);
     }
-    io::read_full(STDIN_FILENO, &mut space[..n])
+    read_full(from, &mut space[..n])
 }
 
 // Answers a call by its operation's number, check where it has no other.
 fn answer(
+    to: &mut impl Write,
     operation: u8,
     node: u8,
     table: &[u8],
@@ -122,74 +137,67 @@ fn answer(
     bounds: &[u8],
     choice: &[u8],
     out: &mut [u8],
-) {
+) -> io::Result<()> {
     if operation == START {
-        line(keshmirun::start(table, values, out), out);
-        return;
+        let word = keshmirun::start(table, values, out);
+        return line(to, word, out);
     }
     if operation == SHEET {
-        line(keshmirun::sheet(table, marking, values, bounds, out), out);
-        return;
+        let word = keshmirun::sheet(table, marking, values, bounds, out);
+        return line(to, word, out);
     }
     if operation == PICK {
-        line(
-            keshmirun::pick(table, marking, values, bounds, node, out),
-            out,
-        );
-        return;
+        let word = keshmirun::pick(table, marking, values, bounds, node, out);
+        return line(to, word, out);
     }
     if operation == STEP {
-        line(
-            keshmirun::step(table, marking, values, bounds, choice, out),
-            out,
-        );
-        return;
+        let word = keshmirun::step(table, marking, values, bounds, choice, out);
+        return line(to, word, out);
     }
     if operation == FINISH {
-        line(keshmirun::finish(table, marking, node, values, out), out);
-        return;
+        let word = keshmirun::finish(table, marking, node, values, out);
+        return line(to, word, out);
     }
     if operation == VISITS {
-        visited(keshmirun::visits(table, marking, values, bounds, node, LAST));
-        return;
+        let states = keshmirun::visits(table, marking, values, bounds, node, LAST);
+        return visited(to, states);
     }
     if operation == WHY {
-        line(
-            keshmirun::why(table, marking, values, bounds, node, out),
-            out,
-        );
-        return;
+        let word = keshmirun::why(table, marking, values, bounds, node, out);
+        return line(to, word, out);
     }
     if operation == LEVELS {
-        climbed(table, marking, values, bounds, node);
-        return;
+        return climbed(to, table, marking, values, bounds, node);
     }
-    line(keshmirun::check(table), out);
+    line(to, keshmirun::check(table), out)
 }
 
 // Reads a call and answers it; false where there is none left.
 fn call(
+    from: &mut impl Read,
+    to: &mut impl Write,
     table: &mut [u8],
     marking: &mut [u8],
     values: &mut [u8],
     bounds: &mut [u8],
     choice: &mut [u8],
     out: &mut [u8],
-) -> bool {
+) -> io::Result<bool> {
     let mut head = [0u8; 4];
-    if io::read_full(STDIN_FILENO, &mut head) < 4 {
-        return false;
+    if read_full(from, &mut head)? < 4 {
+        return Ok(false);
     }
     let room = wire::wide(head[1]) * 256 + wire::wide(head[2]);
-    let n = slice(table);
-    let m = slice(marking);
-    let v = slice(values);
-    let x = slice(bounds);
-    let k = slice(choice);
+    let n = slice(from, table)?;
+    let m = slice(from, marking)?;
+    let v = slice(from, values)?;
+    let x = slice(from, bounds)?;
+    let k = slice(from, choice)?;
     if out.len() < room {
-        return false;
+        return Ok(false);
     }
     answer(
+        to,
         head[0],
         head[3],
         &table[..n],
@@ -198,41 +206,47 @@ fn call(
         &bounds[..x],
         &choice[..k],
         &mut out[..room],
-    );
-    true
+    )?;
+    Ok(true)
 }
 
 // Answers call after call.
 fn run(
+    from: &mut impl Read,
+    to: &mut impl Write,
     table: &mut [u8],
     marking: &mut [u8],
     values: &mut [u8],
     bounds: &mut [u8],
     choice: &mut [u8],
     out: &mut [u8],
-) {
-    let mut left = MOST_CALLS;
-    while 0 < left {
-        if !call(table, marking, values, bounds, choice, out) {
-            return;
+) -> io::Result<()> {
+    for _ in 0..MOST_CALLS {
+        if !call(from, to, table, marking, values, bounds, choice, out)? {
+            break;
         }
-        left -= 1;
     }
+    Ok(())
 }
 
-fn main() {
-    let mut table = io::large_buffer();
-    let mut marking = io::large_buffer();
-    let mut values = io::large_buffer();
-    let mut bounds = io::large_buffer();
-    let mut choice = io::large_buffer();
-    let mut out = io::large_buffer();
+// A line goes out as soon as it ends: who waits for an answer has it before the next call is read.
+fn main(rt: HostRuntime) -> io::Result<()> {
+    let mut from = BufReader::with_capacity(rt.alloc(), AHEAD, rt.stdin())?;
+    let mut to = LineWriter::with_capacity(rt.alloc(), AHEAD, rt.stdout())?;
+    let mut table = [0u8; LONGEST];
+    let mut marking = [0u8; LONGEST];
+    let mut values = [0u8; LONGEST];
+    let mut bounds = [0u8; LONGEST];
+    let mut choice = [0u8; LONGEST];
+    let mut out = [0u8; LONGEST];
     run(
+        &mut from,
+        &mut to,
         &mut table,
         &mut marking,
         &mut values,
         &mut bounds,
         &mut choice,
         &mut out,
-    );
+    )
 }
