@@ -6,6 +6,7 @@ ghost use Rattle.std.specs.Prelude.{◌≡◌, true, ◌+◌, ◌*◌, ◌%◌, 
 ghost use Rattle.paper.specs.Limits.{limits};
 ghost use Rattle.table.specs.Reading.{Holdable};
 
+use std::io;
 use table::{Limits, Table, TableAnswer};
 
 mod building;
@@ -15,72 +16,79 @@ mod telling;
 const MARK: u8 = 170;
 
 // The line of a table's check. A builder left the table in the first `len` bytes.
-fn checked(bytes: &[u8], len: usize, n: usize, what: &[u8])
+fn checked(rt: &impl Print, bytes: &[u8], len: usize, n: usize, what: &[u8]) -> io::Result<()>
     requires { len ≤ length bytes.now }
 {
-    telling::tried(n, what, keshmirun::check(&bytes[..len]));
-    telling::words(b"\n");
+    telling::tried(rt, n, what, keshmirun::check(&bytes[..len]))?;
+    telling::words(rt, b"\n")
 }
 
 // The line of reading a table under limits: the same function that the library calls with today's.
-fn read_under(bytes: &[u8], len: usize, n: usize, what: &[u8], most: Limits)
+fn read_under(
+    rt: &impl Print,
+    bytes: &[u8],
+    len: usize,
+    n: usize,
+    what: &[u8],
+    most: Limits,
+) -> io::Result<()>
     requires { (len ≤ length bytes.now) × Holdable most }
 {
     let word = match table_read::read_under(&bytes[..len], most) {
         TableAnswer::Good(_) => wire::pack(0, 0, 0),
         TableAnswer::Refused(number, place) => wire::pack(number, place, 0),
     };
-    telling::tried(n, what, word);
-    telling::number(b", under ", most.nodes);
-    telling::number(b" and ", most.edges);
-    telling::words(b"\n");
+    telling::tried(rt, n, what, word)?;
+    telling::number(rt, b", under ", most.nodes)?;
+    telling::number(rt, b" and ", most.edges)?;
+    telling::words(rt, b"\n")
 }
 
-fn nodes(n: usize, most: Limits)
+fn nodes(rt: &impl Print, n: usize, most: Limits) -> io::Result<()>
     requires { (n ≤ limits.most_nodes + 1) × Holdable most }
 {
     let mut table = [0u8; building::ROOM];
     let len = building::nodes_alone(&mut table, n);
-    read_under(&table, len, n, b" nodes", most);
+    read_under(rt, &table, len, n, b" nodes", most)
 }
 
-fn edges(n: usize, most: Limits)
+fn edges(rt: &impl Print, n: usize, most: Limits) -> io::Result<()>
     requires { (n ≤ limits.most_edges + 1) × Holdable most }
 {
     let mut table = [0u8; building::ROOM];
     let len = building::chained(&mut table, n, 0);
-    read_under(&table, len, n, b" edges", most);
+    read_under(rt, &table, len, n, b" edges", most)
 }
 
 // The same of the library's check.
-fn all_nodes(n: usize)
+fn all_nodes(rt: &impl Print, n: usize) -> io::Result<()>
     requires { n ≤ limits.most_nodes + 1 }
 {
     let mut table = [0u8; building::ROOM];
     let len = building::nodes_alone(&mut table, n);
-    checked(&table, len, n, b" nodes");
+    checked(rt, &table, len, n, b" nodes")
 }
 
-fn all_edges(n: usize)
+fn all_edges(rt: &impl Print, n: usize) -> io::Result<()>
     requires { n ≤ limits.most_edges + 1 }
 {
     let mut table = [0u8; building::ROOM];
     let len = building::chained(&mut table, n, 0);
-    checked(&table, len, n, b" edges");
+    checked(rt, &table, len, n, b" edges")
 }
 
-fn upper(n: usize) {
+fn upper(rt: &impl Print, n: usize) -> io::Result<()> {
     let mut table = [0u8; building::ROOM];
     let len = building::buffer(&mut table, n);
-    checked(&table, len, n, b" as the upper of node 1");
+    checked(rt, &table, len, n, b" as the upper of node 1")
 }
 
-fn chain(n: usize)
+fn chain(rt: &impl Print, n: usize) -> io::Result<()>
     requires { n ≤ 16 }
 {
     let mut table = [0u8; building::ROOM];
     let len = building::chained(&mut table, 1, n);
-    checked(&table, len, n, b" control nodes in a chain");
+    checked(rt, &table, len, n, b" control nodes in a chain")
 }
 
 // The marking with which a table starts that has no incoming parameter, and its length.
@@ -111,43 +119,43 @@ fn sheet(bytes: &[u8], len: usize, room: &mut [u8], n: usize) -> u64
 }
 
 // The line of that sheet: of a reply also the number of ends, which stands at 3, and the length.
-fn shown(bytes: &[u8], len: usize, n: usize, what: &[u8])
+fn shown(rt: &impl Print, bytes: &[u8], len: usize, n: usize, what: &[u8]) -> io::Result<()>
     requires { (5 ≤ len) × (len ≤ length bytes.now) }
 {
     let mut room = [0u8; 4096];
     let word = sheet(bytes, len, &mut room, 4096);
-    telling::tried(n, what, word);
+    telling::tried(rt, n, what, word)?;
     let written = wire::length_in(word);
     if 0 < written {
-        telling::number(b", ends ", wire::wide(room[3]));
-        telling::number(b", length ", written);
+        telling::number(rt, b", ends ", wire::wide(room[3]))?;
+        telling::number(rt, b", length ", written)?;
     }
-    telling::words(b"\n");
+    telling::words(rt, b"\n")
 }
 
 // n offers, which are width times (chain + 1).
-fn offers(n: usize, width: usize, chain: usize)
+fn offers(rt: &impl Print, n: usize, width: usize, chain: usize) -> io::Result<()>
     requires { (n ≡ width * (chain + 1)) × (width ≤ 20) × (chain ≤ 15) }
 {
     let mut table = [0u8; building::ROOM];
     let len = building::chained(&mut table, width, chain);
-    shown(&table, len, n, b" offers");
+    shown(rt, &table, len, n, b" offers")
 }
 
-fn paths(n: usize)
+fn paths(rt: &impl Print, n: usize) -> io::Result<()>
     requires { n ≤ 9 }
 {
     let mut table = [0u8; building::ROOM];
     let len = building::through(&mut table, n, Table::JOIN);
-    shown(&table, len, n, b" paths in an offer");
+    shown(rt, &table, len, n, b" paths in an offer")
 }
 
-fn ends(n: usize)
+fn ends(rt: &impl Print, n: usize) -> io::Result<()>
     requires { n ≤ 21 }
 {
     let mut table = [0u8; building::ROOM];
     let len = building::chained(&mut table, n, 0);
-    shown(&table, len, n, b" ends");
+    shown(rt, &table, len, n, b" ends")
 }
 
 // The finish of an action from which an edge leads that has so many tokens.
@@ -160,14 +168,14 @@ fn finish(tokens: u8, out: &mut [u8]) -> u64 {
 }
 
 // The line of that finish: of a reply also what the edge has then, which is its last byte.
-fn finished(tokens: u8) {
+fn finished(rt: &impl Print, tokens: u8) -> io::Result<()> {
     let mut out = [0u8; Table::LONGEST_MARKING];
     let word = finish(tokens, &mut out);
-    telling::tried(wire::wide(tokens), b" on an edge before finish", word);
+    telling::tried(rt, wire::wide(tokens), b" on an edge before finish", word)?;
     if 0 < wire::length_in(word) {
-        telling::number(b", then ", wire::wide(out[6]));
+        telling::number(rt, b", then ", wire::wide(out[6]))?;
     }
-    telling::words(b"\n");
+    telling::words(rt, b"\n")
 }
 
 // Whether the bytes of a room are as they were lent, from a place on.
@@ -176,23 +184,23 @@ fn untouched(lent: &[u8], from: usize) -> bool
     ensures { (result ≡ true → drop from lent.now ≡ drop from (replicate 4096 170)) × (drop from lent.now ≡ drop from (replicate 4096 170) → result ≡ true) }
 {
     let fresh = [MARK; 4096];
-    check::same(&lent[from..], &fresh[from..])
+    lent[from..] == fresh[from..]
 }
 
 // A sheet of 35 bytes in a room of n: what the reply doesn't take stays as it was, beyond the room too.
-fn room(n: usize)
+fn room(rt: &impl Print, n: usize) -> io::Result<()>
     requires { n ≤ 4096 }
 {
     let mut table = [0u8; building::ROOM];
     let len = building::through(&mut table, 8, Table::JOIN);
     let mut lent = [MARK; 4096];
     let word = sheet(&table, len, &mut lent, n);
-    telling::tried(n, b" bytes of room for a sheet of 35", word);
+    telling::tried(rt, n, b" bytes of room for a sheet of 35", word)?;
     let taken = wire::length_in(word);
     if untouched(&lent, taken) {
-        telling::number(b", none changed from byte ", taken);
+        telling::number(rt, b", none changed from byte ", taken)?;
     }
-    telling::words(b"\n");
+    telling::words(rt, b"\n")
 }
 
 // The limits before wish 6, and today's.
@@ -215,34 +223,34 @@ fn larger() -> Limits
 }
 
 // The cases of both limits on the number of nodes and of edges: so many are allowed, and one more isn't.
-fn around(most: Limits)
+fn around(rt: &impl Print, most: Limits) -> io::Result<()>
     requires { Holdable most }
 {
-    nodes(most.nodes, most);
-    nodes(most.nodes + 1, most);
-    edges(most.edges, most);
-    edges(most.edges + 1, most);
+    nodes(rt, most.nodes, most)?;
+    nodes(rt, most.nodes + 1, most)?;
+    edges(rt, most.edges, most)?;
+    edges(rt, most.edges + 1, most)
 }
 
-fn main() {
-    around(smaller());
-    around(larger());
-    all_nodes(Table::MOST_NODES);
-    all_nodes(Table::MOST_NODES + 1);
-    all_edges(Table::MOST_EDGES);
-    all_edges(Table::MOST_EDGES + 1);
-    upper(16);
-    upper(17);
-    chain(15);
-    chain(16);
-    offers(64, 16, 3);
-    offers(65, 13, 4);
-    paths(8);
-    paths(9);
-    ends(20);
-    ends(21);
-    finished(254);
-    finished(255);
-    room(35);
-    room(34);
+fn main(rt: HostRuntime) -> io::Result<()> {
+    around(&rt, smaller())?;
+    around(&rt, larger())?;
+    all_nodes(&rt, Table::MOST_NODES)?;
+    all_nodes(&rt, Table::MOST_NODES + 1)?;
+    all_edges(&rt, Table::MOST_EDGES)?;
+    all_edges(&rt, Table::MOST_EDGES + 1)?;
+    upper(&rt, 16)?;
+    upper(&rt, 17)?;
+    chain(&rt, 15)?;
+    chain(&rt, 16)?;
+    offers(&rt, 64, 16, 3)?;
+    offers(&rt, 65, 13, 4)?;
+    paths(&rt, 8)?;
+    paths(&rt, 9)?;
+    ends(&rt, 20)?;
+    ends(&rt, 21)?;
+    finished(&rt, 254)?;
+    finished(&rt, 255)?;
+    room(&rt, 35)?;
+    room(&rt, 34)
 }

@@ -1,20 +1,20 @@
-// The pieces of a case's line: words and numbers. Assumes nothing.
-use libc::STDOUT_FILENO;
+// The pieces of a case's line: words and numbers, printed as they come. Assumes nothing.
+use std::io;
 
-pub fn words(text: &[u8]) {
-    io::write_all(STDOUT_FILENO, text);
+pub fn words(rt: &impl Print, text: &[u8]) -> io::Result<()> {
+    rt.write_all(text)
 }
 
 // A number after words.
-pub fn number(text: &[u8], n: usize) {
-    words(text);
-    io::print_decimal(STDOUT_FILENO, n as u64);
+pub fn number(rt: &impl Print, text: &[u8], n: usize) -> io::Result<()> {
+    words(rt, text)?;
+    rt.print(n)
 }
 
 // How many of what are tried, then the refusal and the place of the answer word.
-pub fn tried(n: usize, what: &[u8], word: u64) {
-    number(b"", n);
-    words(what);
-    number(b": ", wire::refusal_in(word));
-    number(b" ", wire::place_in(word));
+pub fn tried(rt: &impl Print, n: usize, what: &[u8], word: u64) -> io::Result<()> {
+    number(rt, b"", n)?;
+    words(rt, what)?;
+    number(rt, b": ", wire::refusal_in(word))?;
+    number(rt, b" ", wire::place_in(word))
 }
