@@ -1,16 +1,20 @@
 // The program `sheet`: reads a table, a marking and guards, one after another, and prints the ends on offer and the pick, or the refusal.
 // `describe` makes the text, and its promise is the paper's (`PrintsFor`): for an input however long, if what it is lent is what is read of it (`read_of`).
-// That just this is read, and that the text is printed, no contract can say.
+// That just this is read, and that just the text is written, `answer` promises of each reader and writer whose bytes are known. Of standard input and output
+// no contract can say it.
 #![tactic(auto)]
 
-ghost use Rattle.std.specs.Prelude.{◌≡◌, List, ℕ, ◌≤◌, length, take};
+ghost use Rattle.std.specs.Prelude.{◌≡◌, List, ℕ, ◌≤◌, length, take, IfSome, OnOk};
+ghost use Rattle.std.specs.Io.KnownBytes.{Appends};
 ghost use Rattle.paper.specs.Offers.{terms, no_bounds};
 ghost use Rattle.paper.specs.Program.{most_input, read_of, PrintsFor};
 ghost use Rattle.sheet.specs.Shown.{Shown, PrintsPick, PrintsParts};
 
-use libc::{STDIN_FILENO, STDOUT_FILENO};
+use intake::read_full;
+use std::io;
+use std::io::{Read, Write};
 
-// So much is read at most (`mostInput`); no good input is longer.
+// So much is read at most (`most_input`); no good input is longer.
 const MOST_INPUT: usize = 16384;
 
 // A sheet is shorter, and so is a pick.
@@ -74,10 +78,17 @@ fn describe(stream: &[u8], out: &mut [u8]) -> usize
     describe_parts(table, marking, guards, out)
 }
 
-fn main() {
+// Reads an input and writes its text, and nothing beside it.
+fn answer<R: Read, W: Write>(from: &mut R, to: &mut W) -> io::Result<()>
+    ensures { OnOk result (IfSome (R.remaining from.old) (λ input. (written : List ℕ) × PrintsFor input written × Appends (W.contents to.old) (W.contents to.new) written)) }
+{
     let mut stream = [0u8; MOST_INPUT];
-    let n = io::read_full(STDIN_FILENO, &mut stream);
+    let n = read_full(from, &mut stream)?;
     let mut out = [0u8; MOST_TEXT];
     let k = describe(&stream[..n], &mut out);
-    io::write_all(STDOUT_FILENO, &out[..k]);
+    to.write_all(&out[..k])
+}
+
+fn main(rt: HostRuntime) -> io::Result<()> {
+    answer(&mut rt.stdin(), &mut rt.stdout())
 }
