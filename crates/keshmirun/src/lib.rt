@@ -27,8 +27,7 @@ use table::TableAnswer;
 pub const NO_BOUNDS: [u8; 4] = [0, 2, 1, 0];
 
 // Whether the bytes are a table. Writes nothing.
-#[unsafe(no_mangle)]
-pub extern "C" fn check(table: &[u8]) -> u64
+pub fn check(table: &[u8]) -> u64
     ensures { Leaves (Only (checked table.now)) result [] [] }
 {
     if let TableAnswer::Refused(number, place) = table_read::read(table) {
@@ -38,8 +37,7 @@ pub extern "C" fn check(table: &[u8]) -> u64
 }
 
 // The marking with which an activity begins.
-#[unsafe(no_mangle)]
-pub extern "C" fn start(table: &[u8], values: &[u8], out: &mut [u8]) -> u64
+pub fn start(table: &[u8], values: &[u8], out: &mut [u8]) -> u64
     ensures { Leaves (Only (started table.now values.now)) result out.old out.new }
 {
     let x = match table_read::read(table) {
@@ -50,14 +48,7 @@ pub extern "C" fn start(table: &[u8], values: &[u8], out: &mut [u8]) -> u64
 }
 
 // The ends that are offered, in order, with their values and paths.
-#[unsafe(no_mangle)]
-pub extern "C" fn sheet(
-    table: &[u8],
-    marking: &[u8],
-    guards: &[u8],
-    bounds: &[u8],
-    out: &mut [u8],
-) -> u64
+pub fn sheet(table: &[u8], marking: &[u8], guards: &[u8], bounds: &[u8], out: &mut [u8]) -> u64
     ensures { Leaves (Only (shown table.now marking.now (terms guards.now bounds.now))) result out.old out.new }
 {
     let x = match table_read::read(table) {
@@ -68,8 +59,7 @@ pub extern "C" fn sheet(
 }
 
 // The first acceptable choice, or the first that has an end of the named node; 255 names none.
-#[unsafe(no_mangle)]
-pub extern "C" fn pick(
+pub fn pick(
     table: &[u8],
     marking: &[u8],
     guards: &[u8],
@@ -97,8 +87,7 @@ pub extern "C" fn pick(
 
 // The reason for which a named node has no acceptable choice, the first level at which none is left: 1 no end belongs to it; 2 its own destination rule;
 // 3 competing ends; 4 forks; 5 the other destinations; 0 it has one, or none is named (255).
-#[unsafe(no_mangle)]
-pub extern "C" fn why(
+pub fn why(
     table: &[u8],
     marking: &[u8],
     guards: &[u8],
@@ -147,8 +136,7 @@ pub fn visits(table: &[u8], marking: &[u8], guards: &[u8], bounds: &[u8], node: 
 }
 
 // The marking after the ends of a choice are taken.
-#[unsafe(no_mangle)]
-pub extern "C" fn step(
+pub fn step(
     table: &[u8],
     marking: &[u8],
     guards: &[u8],
@@ -175,14 +163,7 @@ pub extern "C" fn step(
 }
 
 // The marking after an action ends, with the values of its output pins.
-#[unsafe(no_mangle)]
-pub extern "C" fn finish(
-    table: &[u8],
-    marking: &[u8],
-    action: u8,
-    values: &[u8],
-    out: &mut [u8],
-) -> u64
+pub fn finish(table: &[u8], marking: &[u8], action: u8, values: &[u8], out: &mut [u8]) -> u64
     ensures { Leaves (Only (finished table.now marking.now action values.now)) result out.old out.new }
 {
     let x = match table_read::read(table) {
