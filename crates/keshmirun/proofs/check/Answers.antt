@@ -1,4 +1,5 @@
 -- `check` answers what the reader of the table answers: its refusal, or nothing written. Assumes nothing.
+use mathlib.Core.List.{[]}
 use mathlib.Core.Path.{◌∙◌, refl, sym, ap}
 use Rattle.paper.specs.Answers.{good}
 use Rattle.table.specs.Reading.{said}

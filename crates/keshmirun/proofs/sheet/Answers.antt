@@ -1,4 +1,5 @@
 -- `sheet`: the table's refusals, then what is asked of the board. Assumes nothing.
+use mathlib.Core.List.{[]}
 use mathlib.Core.Path.{sym, ap, ◌∙◌}
 use Rattle.paper.specs.Offers.{terms}
 use Rattle.table.specs.Reading.{said}

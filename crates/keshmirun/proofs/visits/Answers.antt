@@ -1,4 +1,5 @@
 -- `visits`: the table's refusals, then how far the search at a level goes on the board. Assumes nothing.
+use mathlib.Core.List.{[]}
 use mathlib.Core.Path.{sym, ap, ◌∙◌}
 use Rattle.paper.specs.Offers.{terms}
 use Rattle.table.specs.Reading.{said}
