@@ -4,7 +4,7 @@ use native.Mathlib.Omega.{arith}
 use Rattle.paper.specs.Offers.{terms}
 use Rattle.table.proofs.Reading.{read-spans, read-good, nodes_most, edges_most}
 use Rattle.terms.specs.Terms.{said}
-use Rattle.marking_held.specs.MarkingHeld.{Held, LiveMarking, held_of}
+use Rattle.marking_held.specs.MarkingHeld.{LiveMarking, held_of}
 use Rattle.marking_held.proofs.HeldLaws.{lengths_up, live_up}
 use Rattle.board.proofs.Ladder.{board_5, board_6, board-terms}
 use Rattle.keshmirun.proofs.Requests.{asked_refused}

@@ -1,12 +1,10 @@
 -- `respond`: what the layer of the board refused, or what is asked of the board that stands. Assumes nothing.
-use mathlib.Core.Path.{◌≡◌, ap, ◌∙◌}
+use mathlib.Core.Path.{ap, ◌∙◌}
 use Prim.Native.Nat.{ℕ, ◌≤◌}
 use mathlib.Core.List.{List}
 use native.Mathlib.Omega.{arith}
 use lib.ListN.{length}
-use Rattle.paper.specs.Answers.{good}
 use Rattle.paper.specs.Offers.{Terms, terms}
-use Rattle.paper.specs.Choices.{board}
 use Rattle.paper.proofs.Bytes.{Bytes}
 use Rattle.table.proofs.Reading.{read-spans}
 use Rattle.offers.specs.Rows.{row_cells}
@@ -15,7 +13,6 @@ use Rattle.marking_held.proofs.HeldLaws.{fields_long}
 use Rattle.board.specs.Reading.{EndsLent, EndsRoom, ends_lent, Laid}
 use Rattle.board.proofs.BoardLaws.{laid_refusal, laid_board, laid_seatable}
 use Rattle.board.proofs.Ladder.{fine-long}
-use Rattle.step.specs.Stepping.{Standing}
 use Rattle.keshmirun.specs.declared.asking.Request.TheVariants.{Choice}
 use Rattle.keshmirun.proofs.Requests.{asked_refused, sheet-leaves, laid_shows, pick_leaves, why_leaves, step-leaves, count-leaves}
 use Rattle.keshmirun.proofs.Laying.{laid_standing, standing_board}
