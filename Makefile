@@ -4,15 +4,15 @@
 define HELP
 make               proves every crate, makes the archives for Rust and C, and prints the sheet of the paper's small event.
                    target/archive has the archives, a folder for each processor; target/log has what the kit says.
-                   8 to 10 minutes on two cores; with nothing changed, seconds.
+                   ?? minutes on two cores; with nothing changed, ?? seconds.
 make sheet <FILE   prints the ends on offer and the pick for a table, a marking and guards. Seconds, once all is proved.
-make test          the gate: layout, every proof from nothing, must-fail edits, the programs' output, both archives, and the
-                   tests and lints of the Rust side. target/log has what each part says; the last line is 'N passed, 0 failed'.
-                   18 to 20 minutes on two cores.
+make test          the gate: `rt ci` (layout, every proof from nothing, must-fail edits, the programs' output), both archives, and
+                   the tests and lints of the Rust side. target/log has what each part says; the last line is 'N passed, 0 failed'.
+                   ?? minutes on two cores; where rt ci passed the same files on the machine before, ?? minutes.
 make bench         prints how long the seven operations take beside the plain reading, and how much stack.
                    Half a minute, once the archives are made.
 make definitions   tries the definitions on 600 outside calls, by computation (tools/try-definitions --help says which);
-                   target/definitions has the theorems. Some minutes.
+                   target/definitions has the theorems, as text. A minute.
 make doc           the Rust crate's documentation, rust/target/doc/keshmirun/index.html. Seconds, with the archives made.
 make desk          the desk, rust/target/release/desk. Seconds, with the archives made.
 make help          prints this.
@@ -27,11 +27,8 @@ is: with these in target/archive here, or in the folder that KESHMIRUN_ARCHIVE n
 run without it.
 endef
 
-# where checks lay out their files
-export TMPDIR := $(shell tools/scratch)
-
 all: kit
-	@tools/progress target/log/rt check
+	@tools/progress target/log/check all check
 	@tools/archive
 	@tools/run sheet <crates/sheet/stdin
 

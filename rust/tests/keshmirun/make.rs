@@ -4,22 +4,26 @@
 use std::collections::BTreeSet;
 use std::env;
 use std::fs;
-use std::os::unix::fs::symlink;
 use std::path::{Path, PathBuf};
 use std::process::{Command, Output};
 
-/// A folder of this name with the repository's Makefile and tools, and a folder for the PATH that has make and bash.
+/// A folder of this name with the repository's Makefile and tools, and a folder for the PATH that has make and bash. All are copies: `rt ci` refuses a
+/// checkout with links in it.
 fn laid_out(name: &str) -> PathBuf {
     let (repository, folder) = (Path::new(env!("CARGO_MANIFEST_DIR")).join(".."), Path::new(env!("CARGO_TARGET_TMPDIR")).join("make").join(name));
     if folder.exists() {
         fs::remove_dir_all(&folder).expect("an earlier run's");
     }
-    fs::create_dir_all(folder.join("path")).expect("a folder");
-    for entry in ["Makefile", "tools"] {
-        symlink(repository.join(entry), folder.join(entry)).expect("a link");
+    for part in ["path", "tools"] {
+        fs::create_dir_all(folder.join(part)).expect("a folder");
+    }
+    fs::copy(repository.join("Makefile"), folder.join("Makefile")).expect("a copy");
+    for tool in fs::read_dir(repository.join("tools")).expect("tools") {
+        let tool = tool.expect("a tool");
+        fs::copy(tool.path(), folder.join("tools").join(tool.file_name())).expect("a copy");
     }
     for program in ["make", "bash"] {
-        symlink(found(program), folder.join("path").join(program)).expect("a link");
+        fs::copy(found(program), folder.join("path").join(program)).expect("a copy");
     }
     folder
 }

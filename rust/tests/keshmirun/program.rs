@@ -34,9 +34,10 @@ fn small_text() -> String {
 
 /// The program that was proved, with this as its standard input.
 fn program(input: Stdio) -> Command {
-    assert!(repository().join("target/bin/sheet").exists(), "no target/bin/sheet: `make` proves and builds it");
-    let mut program = Command::new(repository().join("tools/program"));
-    program.arg("sheet").stdin(input);
+    let sheet = repository().join("crates/sheet/out/sheet");
+    assert!(sheet.exists(), "no crates/sheet/out/sheet: `make` proves and builds it");
+    let mut program = Command::new(sheet);
+    program.stdin(input);
     program
 }
 
@@ -47,7 +48,7 @@ fn printed(input: &[u8]) -> String {
     let file = File::open(&path).expect("the input");
     // it shares with the program's input the place up to which it was read
     let mut read = file.try_clone().expect("the input");
-    let ran = program(Stdio::from(file)).output().expect("tools/program");
+    let ran = program(Stdio::from(file)).output().expect("crates/sheet/out/sheet");
     remove_file(&path).expect("the input");
     assert!(ran.status.success(), "{ran:?}");
     assert_eq!(read.stream_position().expect("a place"), input.len().min(MOST_INPUT) as u64, "bytes read of {}", input.len());
@@ -238,7 +239,7 @@ fn random_events() {
 /// A pipe that brings the input in pieces is read to its end.
 #[test]
 fn in_pieces() {
-    let mut running = program(Stdio::piped()).stdout(Stdio::piped()).spawn().expect("tools/program");
+    let mut running = program(Stdio::piped()).stdout(Stdio::piped()).spawn().expect("crates/sheet/out/sheet");
     let mut pipe = running.stdin.take().expect("its input");
     for piece in small_event().chunks(20) {
         pipe.write_all(piece).expect("its input");
@@ -246,6 +247,6 @@ fn in_pieces() {
         thread::sleep(Duration::from_millis(50));
     }
     drop(pipe);
-    let ran = running.wait_with_output().expect("tools/program");
+    let ran = running.wait_with_output().expect("crates/sheet/out/sheet");
     assert_eq!(String::from_utf8_lossy(&ran.stdout), small_text());
 }
