@@ -28,7 +28,7 @@ run without it.
 endef
 
 all: kit
-	@tools/progress target/log/check all check
+	@tools/progress target/log/check rt all check
 	@tools/archive
 	@tools/run sheet <crates/sheet/stdin
 
