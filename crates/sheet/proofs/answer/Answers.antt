@@ -1,5 +1,5 @@
 -- `answer`: what was read of a known input is what the paper cuts, and just the text that is made of it is written.
-use Rattle.std.proofs.Common.{◌≡◌, ℕ, List, Option, Some, None, Result, Ok, Err, IfSome, OnOk, length, take}
+use Rattle.std.proofs.Common.{◌≡◌, ℕ, List, Option, Some, None, Result, Ok, Err, IfSome, OnOk, take}
 use Rattle.std.specs.Io.KnownBytes.{Appends}
 use Rattle.paper.specs.Program.{read_of, PrintsFor}
 use Rattle.sheet.proofs.answer.Goals as goal
