@@ -1,4 +1,4 @@
--- The exported functions: what their callers learn from their contracts is `Leaves` of the paper's answers on what they are lent, so every theorem on
+-- The operations, which keshmirun_c exports under the same clauses: what their callers learn from their contracts is `Leaves` of the paper's answers on what they are lent, so every theorem on
 -- `Leaves (AllowedBy ..)` is one on them (same bytes, same answer; enough room). Their words settle number, place and length, a pick's 0 and 13 mean what a
 -- judge takes them for, why's byte is the reason and is 0 exactly if pick's word isn't 13's, with count 0 they leave what they left before there were bounds, and
 -- on the call of a case of the small event they leave its answer.
@@ -209,7 +209,7 @@ module _ (κs : Lfts 5) (a : Dens κs WhyKinds.ps) (g : GoodsP κs WhyKinds.ps a
         let r : Reply (refused 13 a.1.1.1.1.0) v before after = rw e at p.reply in
         r.0
 
--- ---- the small event: on the call of a row of the table, an export leaves the row's answer
+-- ---- the small event: on the call of a row of the table, an operation leaves the row's answer
 case_left : (r : Case) → In r cases → (call : Call) → call ≡ r.call → (word : ℕ) (before after : List ℕ) → Leaves (AllowedBy call) word before after → Left r.answer word before after
 case_left r m call e word before after l = (small_event r m).left word before after (subst (λ (x : Call). Leaves (AllowedBy x) word before after) e l)
 

@@ -1,7 +1,7 @@
 // The program `sheet`: reads a table, a marking and guards, one after another, and prints the ends on offer and the pick, or the refusal.
 // `describe` makes the text, and its promise is the paper's (`PrintsFor`): for an input however long, if what it is lent is what is read of it (`read_of`).
-// That just this is read, and that just the text is written, `answer` promises of each reader and writer whose bytes are known. Of standard input and output
-// no contract can say it.
+// That just this text is written, whatever stands behind what is read, `answer` promises of each reader and writer whose bytes are known. Of standard input and
+// output no contract can say it.
 #![tactic(auto)]
 
 ghost use Rattle.std.specs.Prelude.{◌≡◌, List, ℕ, ◌≤◌, length, take, IfSome, OnOk};
