@@ -6,7 +6,7 @@
  * A slice is a pointer and a length; one of length 0 may have any pointer, NULL too. An operation reads its inputs and writes its reply to the front
  * of `out`; a refused call changes no byte. Inputs and `out` must not overlap.
  *
- * Stack and state: any call takes less than KESHMIRUN_STACK bytes of stack, 32 KiB (tested and not proved; the deepest known takes 27,127). Give a
+ * Stack and state: any call takes less than KESHMIRUN_STACK bytes of stack, 32 KiB (tested and not proved; the deepest known takes 28,139). Give a
  * thread that calls the engine 64 KiB at least. Nothing is allocated, nothing is kept between calls, and there are no globals, so any number of
  * threads may call at once.
  *

@@ -89,7 +89,7 @@
 //!
 //! # Stack and state
 //!
-//! A call takes less than [`Room::STACK`] bytes of stack (32 KiB; the deepest known 27,127 bytes), allocates nothing in the engine, and keeps nothing: no state
+//! A call takes less than [`Room::STACK`] bytes of stack (32 KiB; the deepest known 28,139 bytes), allocates nothing in the engine, and keeps nothing: no state
 //! between calls, no globals. Give a thread that calls it 64 KiB at least. Any number of threads may call at once. A slice of length 0 is fine wherever the format
 //! allows it.
 //!

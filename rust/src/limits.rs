@@ -52,7 +52,7 @@ impl Room {
     /// Room for any choice that [`pick`](crate::pick) writes: a byte for each end.
     pub const CHOICE: usize = MOST_ENDS;
 
-    /// More stack than any call of the engine takes. It is tested and not proved; the deepest call that is known takes 27,127 bytes. Give a thread that calls
+    /// More stack than any call of the engine takes. It is tested and not proved; the deepest call that is known takes 28,139 bytes. Give a thread that calls
     /// the engine twice as much at least, for the caller's own.
     pub const STACK: usize = 32_768;
 }
