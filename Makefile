@@ -4,11 +4,12 @@
 define HELP
 make               proves every crate, makes the archives for Rust and C, and prints the sheet of the paper's small event.
                    target/archive has the archives, a folder for each processor; target/log has what the kit says.
-                   Some 12 minutes on two cores; with nothing changed, half a minute.
+                   Some 22 minutes on two cores; with nothing changed, half a minute.
 make sheet <FILE   prints the ends on offer and the pick for a table, a marking and guards. Seconds, once all is proved.
 make test          the gate: `rt ci` (layout, every proof from nothing, must-fail edits, the programs' output), both archives, and
                    the tests and lints of the Rust side. target/log has what each part says; the last line is 'N passed, 0 failed'.
-                   Some 30 minutes on two cores; where rt ci passed the same files on the machine before, 5.
+                   Not timed on fewer than four processors: 21 there for the proofs and edits from nothing, so 30 or more
+                   minutes on two cores; where rt ci passed the same files on the machine before, 4 on four.
 make bench         prints how long the seven operations take beside the plain reading, and how much stack.
                    Half a minute, once the archives are made.
 make definitions   tries the definitions on 600 outside calls, by computation (tools/try-definitions --help says which);
