@@ -25,8 +25,10 @@ use Rattle.offers.specs.Struct.{Copied, beside_in, rows_of}
 use Rattle.offers.proofs.Sets.{member}
 use Rattle.offers.specs.declared.Offers.{Offers}
 use Rattle.offers_all.proofs.Struct.{copied_holds}
-use Rattle.ends.specs.declared.EndsAnswer.{EndsAnswer}
-use Rattle.ends.specs.declared.EndsAnswer.TheVariants.{Good, Refused}
+use Rattle.std.specs.Prelude.{Result, Ok, Err}
+use Rattle.wire.specs.declared.Refusal.{Refusal}
+use Rattle.wire.specs.Refusals.{number, place}
+use Rattle.board.specs.declared.reading.Counts.{Counts}
 use Rattle.ends_masks.specs.Seating.{Seatable, EndsSeated, Seated, MarkingTold, Stands}
 use Rattle.ends_masks.specs.declared.Ends.{Ends}
 use Rattle.marking_held.specs.MarkingHeld.{Held}
@@ -38,11 +40,11 @@ pub board-refused : (t b : List ℕ) (w : Terms) (n p : ℕ) → table_read t �
 unfolding board
 board-refused t b w n p e = rw (read-refused t n p e)
 
-module _ (show : Bool) (t b : List ℕ) (w : Terms) (x : Held) (m : List ℕ) (c : ℕ) (s : EndsLent) (r : EndsAnswer) (h : BoardLaid show t b w x m c s r) where
-  pub laid_refusal : (n p : ℕ) → r ≡ Refused n p → board t b w ≡ refused n p
-  laid_refusal n p e = rw e at h
+module _ (show : Bool) (t b : List ℕ) (w : Terms) (x : Held) (m : List ℕ) (s : EndsLent) (r : Result Counts Refusal) (h : BoardLaid show t b w x m s r) where
+  pub laid_refusal : (v : Refusal) → r ≡ Err v → board t b w ≡ refused (number v) (place v)
+  laid_refusal v e = rw e at h
 
-  pub laid_board : (n : ℕ) → r ≡ Good n → Laid show t b w x m c s n
+  pub laid_board : (n : Counts) → r ≡ Ok n → Laid show t b w x m n.offers s n.ends
   laid_board n e = rw e at h
 
 -- ---- a board

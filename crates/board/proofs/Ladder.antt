@@ -18,9 +18,10 @@ use Rattle.paper.proofs.Sameness.{elem_in, in_elem}
 use Rattle.table.specs.declared.Table.{Table}
 use Rattle.table.specs.Reading.{table_read}
 use Rattle.table.proofs.Reading.{read-fine}
-use Rattle.marking.specs.declared.reading.MarkingAnswer.{MarkingAnswer}
+use Rattle.std.specs.Prelude.{Result, Ok, Err}
 use Rattle.marking.specs.Reading.{MarkingRead}
-use Rattle.marking.specs.declared.reading.MarkingAnswer.TheVariants.{Ended, Refused as NoMarking}
+use Rattle.wire.specs.declared.Refusal.{Refusal}
+use Rattle.wire.specs.Refusals.{number, place}
 use Rattle.offers.specs.Rows.{Rows, rows_in, fine}
 use Rattle.terms.specs.Terms.{terms_fine, Ties}
 use Rattle.terms.proofs.TermLaws.{terms-fine}
@@ -28,22 +29,26 @@ use Rattle.terms.proofs.GuardLaws.{guards-long}
 use Rattle.offers_all.specs.Stages.{Whole, on_edge}
 use Rattle.marking_held.specs.MarkingHeld.{Held, LiveMarking}
 use Rattle.marking_held.proofs.HeldLaws.{refused_up, ended_up}
-use Rattle.ends.specs.declared.EndsAnswer.{EndsAnswer}
-use Rattle.ends.specs.declared.EndsAnswer.TheVariants.{Good, Refused}
 use Rattle.ends.specs.Ends.{EndsListed, Arranged}
 use Rattle.board.specs.Reading.{EndsLent, Laid, BoardLaid}
+use Rattle.board.specs.declared.reading.Counts.{Counts}
+
+-- so many offers, with what the ends answer
+abbrev pub with_offers : ℕ → Result ℕ Refusal → Result Counts Refusal
+with_offers c (Ok n) = Ok (record { offers = c; ends = n })
+with_offers c (Err v) = Err v
 
 -- ---- the ladder
 module _ (t b g x : List ℕ) {k : Table} (e : table_read t ≡ good k) where
   abbrev w : Terms
   w = terms g x
 
-  module _ (from kept tokens : List ℕ) (r : MarkingAnswer) (h : MarkingRead t b from kept tokens (marking t b) r) where
-    pub board_5 : (n p : ℕ) → r ≡ NoMarking n p → board t b w ≡ refused n p
+  module _ (from kept tokens : List ℕ) (r : Result Bool Refusal) (h : MarkingRead t b from kept tokens (marking t b) r) where
+    pub board_5 : (v : Refusal) → r ≡ Err v → board t b w ≡ refused (number v) (place v)
     unfolding board
-    board_5 n p q = let z = refused_up t b from kept tokens r h n p q in rw (read-fine t e, z.0, z.1, z.2)
+    board_5 v q = let z = refused_up t b from kept tokens r h v q in rw (read-fine t e, z.0, z.1, z.2)
 
-    pub board_6 : r ≡ Ended → board t b w ≡ refused 6 0
+    pub board_6 : r ≡ Ok true → board t b w ≡ refused 6 0
     unfolding board board_of
     board_6 q = let z = ended_up t b from kept tokens r h q in rw (read-fine t e, z.1, z.2)
 
@@ -120,11 +125,11 @@ module _ (t b g x : List ℕ) {k : Table} (e : table_read t ≡ good k) where
           held_as = l.held;
         }
 
-        -- the ends' answer is the board's
-        pub board_arranged : (r : EndsAnswer) → Arranged r (gather (on_edge t (goes_over w) l.current) h.order) (ends t os) show z.ends z.order z.lens z.cells
-            → BoardLaid show t b w y m count z r
-        board_arranged (Good n) s = board_laid n s
-        board_arranged (Refused n p) s = rw (s.0, s.1.0) (board_8_ends s.1.1)
+        -- the ends' answer, with the number of offers, is the board's
+        pub board_arranged : (r : Result ℕ Refusal) → Arranged r (gather (on_edge t (goes_over w) l.current) h.order) (ends t os) show z.ends z.order z.lens z.cells
+            → BoardLaid show t b w y m z (with_offers count r)
+        board_arranged (Ok n) s = board_laid n s
+        board_arranged (Err v) s = rw s.0 (board_8_ends s.1)
 
 -- ---- what the builder is handed
 -- fine guards and a fine list stand for what goes over the edges, and there is a guard for each

@@ -1,12 +1,13 @@
 -- What is laid of a board: the offers and ends of the paper's board by rows, and the ends' paths, over what is held of the marking.
 -- Assumes nothing.
-use Rattle.std.specs.Prelude.{ℕ, ◌≡◌, Bool, List, []}
+use Rattle.std.specs.Prelude.{ℕ, ◌≡◌, Bool, List, [], Result, Ok, Err}
 use Rattle.paper.specs.Answers.{refused, good}
 use Rattle.paper.specs.Offers.{Offer, elem, Terms}
 use Rattle.paper.specs.Choices.{board, Board}
 use Rattle.offers.specs.Rows.{rows_in, Holds}
-use Rattle.ends.specs.declared.EndsAnswer.{EndsAnswer}
-use Rattle.ends.specs.declared.EndsAnswer.TheVariants.{Good, Refused}
+use Rattle.wire.specs.declared.Refusal.{Refusal}
+use Rattle.wire.specs.Refusals.{number, place}
+use Rattle.board.specs.declared.reading.Counts.{Counts}
 use Rattle.ends.specs.Ends.{Rooms, EndsListed}
 use Rattle.marking_held.specs.MarkingHeld.{Held, MarkingHeld}
 
@@ -36,6 +37,6 @@ pub record Laid (show : Bool) (t b : List ℕ) (w : Terms) (x : Held) (m : List 
   pub held_as : MarkingHeld t on.current b [] x
 
 -- row 8 of a live marking under fine terms, and the board
-abbrev pub BoardLaid : Bool → List ℕ → List ℕ → Terms → Held → List ℕ → ℕ → EndsLent → EndsAnswer → Type 0
-BoardLaid show t b w x m c s (Good n) = Laid show t b w x m c s n
-BoardLaid show t b w x m c s (Refused k p) = board t b w ≡ refused k p
+abbrev pub BoardLaid : Bool → List ℕ → List ℕ → Terms → Held → List ℕ → EndsLent → Result Counts Refusal → Type 0
+BoardLaid show t b w x m s (Ok n) = Laid show t b w x m n.offers s n.ends
+BoardLaid show t b w x m s (Err e) = board t b w ≡ refused (number e) (place e)

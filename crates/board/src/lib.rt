@@ -4,4 +4,4 @@
 
 mod reading;
 
-pub use reading::{LayAnswer, lay};
+pub use reading::{Counts, lay};

@@ -7,23 +7,22 @@ ghost use Rattle.paper.specs.Table.{edges};
 ghost use Rattle.paper.specs.Marking.{Marking, Good};
 ghost use Rattle.paper.specs.Offers.{terms};
 ghost use Rattle.table.specs.Reading.{table_read};
-ghost use Rattle.offers.specs.Rows.{Ranges, row_cells, rows_in};
+ghost use Rattle.offers.specs.Rows.{Ranges, row_cells};
 ghost use Rattle.terms.specs.Terms.{terms_fine, Ties};
 ghost use Rattle.offers_over.specs.Over.{Space};
 ghost use Rattle.offers_all.specs.Stages.{Gates, Result};
 ghost use Rattle.marking_held.specs.MarkingHeld.{MarkingHeld, LiveMarking, fields_held, FieldsLengths};
 ghost use Rattle.board.specs.Reading.{ends_lent, EndsRoom, BoardLaid};
 
-use ends::EndsAnswer;
 use marking::Fields;
-use offers_over::Grown;
 use table::Table;
+use wire::Refusal;
 
-// What sheet, pick, why and step are asked about: how many offers there are, and the number of ends or the refusal.
+// What sheet, pick, why and step are asked about: how many offers and ends there are.
 #[derive(Clone, Copy)]
-pub struct LayAnswer {
+pub struct Counts {
     pub offers: usize,
-    pub answer: EndsAnswer,
+    pub ends: usize,
 }
 
 // The offers of a marking, in rows; `from` and `to` get for each edge the segment of its offers.
@@ -37,9 +36,9 @@ fn offered(
     rows: &mut [u64],
     from: &mut [u8],
     to: &mut [u8],
-) -> Grown
+) -> Option<usize>
     requires { (table_read t.now ≡ good table) × FieldsLengths fields × (edges t.now ≤ length g.now) × Space rows.old from.old to.old 0 }
-    ensures { Ranges from.new to.new limits.most_offers × ((m : Marking) (goes : Gates) → Ties t.now g.now bounds.now goes → Good t.now m → MarkingHeld t.now m b.now [] (fields_held fields) → Result t.now m goes (rows_in rows.new result.count) result.ok from.new to.new) }
+    ensures { Ranges from.new to.new limits.most_offers × ((m : Marking) (goes : Gates) → Ties t.now g.now bounds.now goes → Good t.now m → MarkingHeld t.now m b.now [] (fields_held fields) → Result t.now m goes rows.new result from.new to.new) }
 {
     offers_all::build(t, table, g, bounds, b, fields, rows, from, to)
 }
@@ -58,22 +57,18 @@ pub fn lay(
     order: &mut [u8],
     lens: &mut [u8],
     cells: &mut [u8],
-) -> LayAnswer
+) -> Result<Counts, Refusal>
     requires { (table_read t.now ≡ good table) × FieldsLengths fields × (edges t.now ≤ length g.now) × (row_cells ≤ length rows.old) × EndsRoom (ends_lent ends.old order.old lens.old cells.old) }
-    ensures { LiveMarking t.now b.now (fields_held fields) → terms_fine t.now g.now bounds.now ≡ good tt → BoardLaid show t.now b.now (terms g.now bounds.now) (fields_held fields) rows.new result.offers (ends_lent ends.new order.new lens.new cells.new) result.answer }
+    ensures { LiveMarking t.now b.now (fields_held fields) → terms_fine t.now g.now bounds.now ≡ good tt → BoardLaid show t.now b.now (terms g.now bounds.now) (fields_held fields) rows.new (ends_lent ends.new order.new lens.new cells.new) result }
 {
     let mut low = [0u8; Table::MOST_EDGES];
     let mut high = [0u8; Table::MOST_EDGES];
-    let built = offered(t, table, b, fields, g, bounds, rows, &mut low, &mut high);
-    if !built.ok {
-        return LayAnswer {
-            offers: 0,
-            answer: EndsAnswer::Refused(8, 0),
-        };
-    }
-    let answer = ends::arrange(t, table, rows, &low, &high, show, ends, order, lens, cells);
-    LayAnswer {
-        offers: built.count,
-        answer: answer,
-    }
+    let offers = offered(t, table, b, fields, g, bounds, rows, &mut low, &mut high).ok_or(
+        Refusal::Size,
+    )?;
+    let count = ends::arrange(t, table, rows, &low, &high, show, ends, order, lens, cells)?;
+    Ok(Counts {
+        offers: offers,
+        ends: count,
+    })
 }

@@ -57,10 +57,6 @@ pub record Reading (ks : List ℕ) (n c low i : ℕ) : Type 0 where
 pub reading_none : (ks : List ℕ) (n : ℕ) → Reading ks n 0 0 0
 reading_none ks n = record { inside = omega arith; test = choice_upward n ks; sum = omega arith; small = pow_pos 0; lows = omega arith }
 
--- a further number fits the mask
-pub in_mask : (n c low k : ℕ) → c < 2 ^ low → low ≤ k → k < n → n ≤ 20 → c + 2 ^ k < 2 ^ 20
-in_mask n c low k s l m f = omega (arith, pow_mono {i = low} {j = k} l, pow_mono {i = suc k} {j = 20} (omega arith))
-
 module _ {ks : List ℕ} {n c low i : ℕ} (r : Reading ks n c low i) (l : i < length ks) where
   ahead : drop i ks ≡ at ks i ∷ drop (suc i) ks
   ahead = drop-cons ks i 0 l
@@ -137,7 +133,7 @@ unfolding numbers
 numbers-none c = refl
 
 -- a taken end's number has room if all have
-pub numbers-room : (c n k : ℕ) → k < n → has c k ≡ true → length (numbers c k) < length (numbers c n)
+numbers-room : (c n k : ℕ) → k < n → has c k ≡ true → length (numbers c k) < length (numbers c n)
 unfolding numbers
 numbers-room c n k l e =
     let rest = from (suc k) (n - suc k) in
@@ -154,8 +150,12 @@ pub writing_none : (c : ℕ) (old : List ℕ) → Writing c 0 old old 0
 writing_none c old = record { next = rw (numbers-none c); bytes = rw (numbers-none c) }
 
 module _ {c k : ℕ} {old new : List ℕ} {to : ℕ} (w : Writing c k old new to) where
-  pub writing_long : length new ≡ length old
+  writing_long : length new ≡ length old
   writing_long = ap length w.bytes ∙ length-sets old 0 (numbers c k)
+
+  -- a taken end's number has room
+  pub has_room : (n : ℕ) → k < n → has c k ≡ true → length (numbers c n) ≤ length old → to < length new
+  has_room n l e m = omega (arith, w.next, writing_long, numbers-room c n k l e)
 
   pub writing_in : has c k ≡ true → Writing c (k + 1) old (set new to k) (to + 1)
   writing_in e = record {

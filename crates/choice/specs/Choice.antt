@@ -1,15 +1,8 @@
 -- A choice as bytes, rising numbers of ends, and as a mask. Assumes nothing.
 use Rattle.std.specs.Prelude.{ℕ, Bool, ◌&&◌, List, ltb}
 use Rattle.paper.specs.Lists.{has, below, all, keep}
-use Rattle.paper.specs.Answers.{Answer, refused, good, ◌>>=◌, need}
+use Rattle.paper.specs.Answers.{Answer, good, ◌>>=◌, need}
 use Rattle.paper.specs.Operations.{rising, choice_of}
-use Rattle.choice.specs.declared.ChoiceAnswer.{ChoiceAnswer}
-use Rattle.choice.specs.declared.ChoiceAnswer.TheVariants.{Good, Refused}
-
--- the number and the place of each answer
-abbrev pub said : ChoiceAnswer → Answer ℕ
-said (Good c) = good c
-said (Refused n p) = refused n p
 
 -- the bytes are a choice among n ends
 unfoldable pub is_choice : List ℕ → ℕ → Bool

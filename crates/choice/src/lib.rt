@@ -6,17 +6,14 @@ ghost use Rattle.std.specs.Prelude.{◌≡◌, ◌++◌, ◌≤◌, ◌<◌, len
 ghost use Rattle.paper.specs.Lists.{has};
 ghost use Rattle.paper.specs.Answers.{good};
 ghost use Rattle.paper.specs.Operations.{in_room, Reply};
-ghost use Rattle.choice.specs.Choice.{said, choice_read, numbers};
+ghost use Rattle.choice.specs.Choice.{choice_read, numbers};
+ghost use Rattle.wire.specs.Refusals.{said, word_of};
 ghost use Rattle.paper.specs.Limits.{limits};
 
-// The set that was read, or the refusal's number and its place.
-#[derive(Clone, Copy)]
-pub enum ChoiceAnswer {
-    Good(u32),
-    Refused(u8, u8),
-}
+use wire::Refusal;
 
 // Whether end k is in the set.
+// kept: words::in_word is the same of a word twice as long; one function for both would need a trait of words or a conversion, and is no plainer
 pub fn is_taken(c: u32, k: usize) -> bool
     requires { k < 32 }
     ensures { result ≡ has c k }
@@ -25,27 +22,25 @@ pub fn is_taken(c: u32, k: usize) -> bool
 }
 
 // The bytes as a choice among n ends (row 9).
-pub fn read_choice(ks: &[u8], n: usize) -> ChoiceAnswer
+pub fn read_choice(ks: &[u8], n: usize) -> Result<u32, Refusal>
     requires { n ≤ limits.most_ends }
     ensures { said result ≡ choice_read ks.now n }
 {
     let mut c: u32 = 0;
     // one more than the number before
     let mut low: usize = 0;
-    let mut i: usize = 0;
-    while i < ks.len() {
-        let k = wire::wide(ks[i]);
+    for k in ks {
+        let k = wire::wide(*k);
         if k < low {
-            return ChoiceAnswer::Refused(9, 0);
+            return Err(Refusal::Choice);
         }
         if n <= k {
-            return ChoiceAnswer::Refused(9, 0);
+            return Err(Refusal::Choice);
         }
         c = c + words::end_of(k);
         low = k + 1;
-        i += 1;
     }
-    ChoiceAnswer::Good(c)
+    Ok(c)
 }
 
 // How many of n ends are taken: the bytes that the choice takes.
@@ -54,12 +49,10 @@ fn choice_size(c: u32, n: usize) -> usize
     ensures { (result ≡ length (numbers c n)) × (result ≤ n) }
 {
     let mut many: usize = 0;
-    let mut k: usize = 0;
-    while k < n {
+    for k in 0..n {
         if is_taken(c, k) {
             many += 1;
         }
-        k += 1;
     }
     many
 }
@@ -70,25 +63,23 @@ fn write_choice(c: u32, n: usize, out: &mut [u8])
     ensures { out.new ≡ numbers c n ++ drop (length (numbers c n)) out.old }
 {
     let mut to: usize = 0;
-    let mut k: usize = 0;
-    while k < n {
+    for k in 0..n {
         if is_taken(c, k) {
             out[to] = k as u8;
             to += 1;
         }
-        k += 1;
     }
 }
 
 // The choice c of n ends, if the room is enough (row 17).
-pub fn tell(c: u32, n: usize, out: &mut [u8]) -> u64
+pub fn tell(c: u32, n: usize, out: &mut [u8]) -> Result<usize, Refusal>
     requires { n ≤ limits.most_ends }
-    ensures { Reply (in_room (length out.old) (good (numbers c n))) result out.old out.new }
+    ensures { Reply (in_room (length out.old) (good (numbers c n))) (word_of result) out.old out.new }
 {
     let len = choice_size(c, n);
     if out.len() < len {
-        return wire::pack(17, 0, 0);
+        return Err(Refusal::Room);
     }
     write_choice(c, n, out);
-    wire::pack(0, 0, len)
+    Ok(len)
 }

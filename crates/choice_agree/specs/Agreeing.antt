@@ -1,18 +1,10 @@
--- What a search for a node answers; rule 3 said by masks of the ends and marks of what starts. Assumes nothing.
+-- Rule 3 said by masks of the ends and marks of what starts. Assumes nothing.
 use Rattle.std.specs.Prelude.{Bool, not, ◌&&◌, ◌||◌, List, ℕ, ◌+◌, leb, eqb}
-use Rattle.std.proofs.Math.Option.{Option, none, some}
 use Rattle.std.specs.Int.Bits.{bit_and}
 use Rattle.std.specs.Int.Count.{ones}
 use Rattle.paper.specs.Lists.{at, within}
 use Rattle.paper.specs.Table.{kind, owner, lower, upper, target, is_action, is_input, is_buffer, is_outgoing}
 use Rattle.ends_masks.specs.Seating.{served}
-use Rattle.choice_agree.specs.declared.Found.{Found}
-use Rattle.choice_agree.specs.declared.Found.TheVariants.{At, Nothing}
-
--- the place of each answer of a search
-abbrev pub found : Found → Option ℕ
-found (At i) = some i
-found Nothing = none
 
 -- how many ends of the mask of x are taken
 abbrev pub took : List ℕ → ℕ → ℕ → ℕ

@@ -13,31 +13,23 @@ ghost use Rattle.words.specs.Marks.{MarksOf, is_marked, placed};
 ghost use Rattle.table.specs.Reading.{Spans, Blank};
 ghost use Rattle.choice_masks.specs.Masks.{Masked};
 ghost use Rattle.ends_masks.specs.Seating.{EndsFull, homes};
-ghost use Rattle.choice_agree.specs.Agreeing.{found, starts_in, edge_wrong, pin_wrong, node_wrong};
+ghost use Rattle.wire.specs.Refusals.{found};
+ghost use Rattle.choice_agree.specs.Agreeing.{starts_in, edge_wrong, pin_wrong, node_wrong};
 
 use ends_masks::Ends;
 use table::Table;
 
-// The lowest place that a search looks for.
-#[derive(Clone, Copy)]
-pub enum Found {
-    At(u8),
-    Nothing,
-}
-
 // The lowest of the first n places that is marked.
-pub fn lowest_marked(marks: &[u8], n: usize) -> Found
+pub fn lowest_marked(marks: &[u8], n: usize) -> Option<u8>
     requires { (n ≤ length marks.now) × (n ≤ 256) }
     ensures { (p : ℕ → Bool) → MarksOf p n marks.now → found result ≡ lowest p n }
 {
-    let mut i: usize = 0;
-    while i < n {
+    for i in 0..n {
         if marks[i] != 0 {
-            return Found::At(i as u8);
+            return Some(i as u8);
         }
-        i += 1;
     }
-    Found::Nothing
+    None
 }
 
 // How many ends of a mask are taken.
@@ -64,13 +56,11 @@ fn mark_starting(t: &[u8], table: Table, ends: Ends, c: u32, starting: &mut [u8]
     requires { Spans t.now table × EndsFull ends × (table.nodes ≤ length starting.old) }
     ensures { Blank starting.old → MarksOf (starts_in t.now ends.target ends.home ends.count c) table.nodes starting.new }
 {
-    let mut k: usize = 0;
-    while k < ends.count {
+    for k in 0..ends.count {
         if choice::is_taken(c, k) {
             mark_action(t, table, ends.target[k], starting);
             mark_action(t, table, ends.home[k], starting);
         }
-        k += 1;
     }
 }
 
@@ -86,19 +76,17 @@ fn edge_wrong(t: &[u8], table: Table, by_edge: &[u32], starting: &[u8], c: u32, 
 }
 
 // Marks the actions that start without one end on each of their edges.
+// kept: beside `mark_pins` and `mark_nodes`, since each has its own test and place; two closures and what they promise are longer than the loop.
 fn mark_edges(t: &[u8], table: Table, by_edge: &[u32], starting: &[u8], c: u32, unfit: &mut [u8])
     requires { Spans t.now table × (table.edges ≤ length by_edge.now) × (table.nodes ≤ length unfit.old) }
     ensures { (p : ℕ → Bool) → MarksOf p table.nodes unfit.old → MarksOf (λ i. p i || placed (edge_wrong t.now (is_marked starting.now) c by_edge.now) (target_of t.now) (edges t.now) i) table.nodes unfit.new }
 {
-    let n = table.edges;
-    let mut e: usize = 0;
-    while e < n {
+    for e in 0..table.edges {
         words::mark(
             unfit,
             edge_wrong(t, table, by_edge, starting, c, e),
             table.target(t, e),
         );
-        e += 1;
     }
 }
 
@@ -125,15 +113,12 @@ fn mark_pins(t: &[u8], table: Table, by_target: &[u32], starting: &[u8], c: u32,
     requires { Spans t.now table × (table.nodes ≤ length by_target.now) × (table.nodes ≤ length unfit.old) }
     ensures { (p : ℕ → Bool) → MarksOf p table.nodes unfit.old → MarksOf (λ i. p i || placed (pin_wrong t.now (is_marked starting.now) c by_target.now) (owner t.now) (nodes t.now) i) table.nodes unfit.new }
 {
-    let n = table.nodes;
-    let mut p: usize = 0;
-    while p < n {
+    for p in 0..table.nodes {
         words::mark(
             unfit,
             pin_wrong(t, table, by_target, starting, c, p),
             table.owner(t, p),
         );
-        p += 1;
     }
 }
 
@@ -173,15 +158,12 @@ fn mark_nodes(
     requires { Spans t.now table × (table.nodes ≤ length by_target.now) × (length kept ≡ limits.most_nodes) × (table.nodes ≤ length unfit.old) }
     ensures { (p : ℕ → Bool) → MarksOf p table.nodes unfit.old → MarksOf (λ i. p i || node_wrong t.now (is_marked starting.now) c by_target.now kept kept i) table.nodes unfit.new }
 {
-    let n = table.nodes;
-    let mut i: usize = 0;
-    while i < n {
+    for i in 0..table.nodes {
         words::mark(
             unfit,
             node_wrong(t, table, by_target, starting, &kept, c, i),
             i,
         );
-        i += 1;
     }
 }
 
@@ -194,7 +176,7 @@ fn unfit_by_masks(
     starting: &[u8],
     kept: [u8; Table::MOST_NODES],
     c: u32,
-) -> Found
+) -> Option<u8>
     requires { Spans t.now table × (table.edges ≤ length by_edge.now) × (table.nodes ≤ length by_target.now) × (length kept ≡ limits.most_nodes) }
     ensures { (edge target home : List ℕ) (n : ℕ) → Masked edge n by_edge.now → Masked target n by_target.now → MarksOf (starts_in t.now target home n c) table.nodes starting.now → found result ≡ homes t.now edge target home kept kept n c }
 {
@@ -212,7 +194,7 @@ pub fn unfit_node(
     ends: Ends,
     kept: [u8; Table::MOST_NODES],
     c: u32,
-) -> Found
+) -> Option<u8>
     requires { Spans t.now table × EndsFull ends × (length kept ≡ limits.most_nodes) }
     ensures { found result ≡ homes t.now ends.edge ends.target ends.home kept kept ends.count c }
 {

@@ -1,20 +1,12 @@
--- What judging a choice answers, and rule 2 said by the word of all makers of taken ends. Assumes nothing.
+-- The rules by rows, and rule 2 said by the word of all makers of taken ends. Assumes nothing.
 use Rattle.std.specs.Prelude.{◌≡◌, Bool, not, ◌&&◌, List, [], ◌∷◌, ℕ, ◌<◌, ltb, eqb, length}
 use Rattle.std.proofs.Math.Option.{Option}
 use Rattle.paper.specs.Lists.{at, has, below, all, any, lowest, ◌⇒◌}
-use Rattle.paper.specs.Answers.{Answer, refused, good}
 use Rattle.paper.specs.Table.{nodes, kind, is_fork}
 use Rattle.words.specs.Marks.{placed}
 use Rattle.offers.specs.declared.Offers.{Offers}
 use Rattle.ends_masks.specs.declared.Ends.{Ends}
 use Rattle.ends_masks.specs.Seating.{siblings, first_rivalled, forks, homes}
-use Rattle.choice_judge.specs.declared.Judged.{Judged}
-use Rattle.choice_judge.specs.declared.Judged.TheVariants.{Fine, Refused}
-
--- the number and the place of each answer
-abbrev pub said : Judged → Answer (Unit {0})
-said Fine = good tt
-said (Refused n p) = refused n p
 
 -- the rules with their numbers, in order
 module _ (t : List ℕ) (o : Offers) (e : Ends) (runs stock : List ℕ) where

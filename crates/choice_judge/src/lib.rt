@@ -11,21 +11,14 @@ ghost use Rattle.words.specs.Marks.{MarksOf};
 ghost use Rattle.table.specs.Reading.{Spans, Blank, table_read};
 ghost use Rattle.offers.specs.Struct.{Full};
 ghost use Rattle.ends_masks.specs.Seating.{EndsFull, rivalled, first_rivalled, makes};
-ghost use Rattle.choice_agree.specs.Agreeing.{found};
-ghost use Rattle.choice_judge.specs.Judging.{said, row_rules, forks_in, parted_at, left_out, PassedOn};
+ghost use Rattle.wire.specs.Refusals.{said, found};
+ghost use Rattle.choice_judge.specs.Judging.{row_rules, forks_in, parted_at, left_out, PassedOn};
 ghost use Rattle.paper.specs.Limits.{limits};
 
-use choice_agree::Found;
 use ends_masks::Ends;
 use offers::Offers;
 use table::Table;
-
-// Whether the choice is acceptable, or the refusal's number and its place.
-#[derive(Clone, Copy)]
-pub enum Judged {
-    Fine,
-    Refused(u8, u8),
-}
+use wire::Refusal;
 
 // ---- "no two of its ends compete"
 
@@ -41,27 +34,25 @@ fn is_rivalled(foes: &[u64], makers: &[u64], n: usize, c: u32, k: usize) -> bool
 }
 
 // The lowest taken end that competes with a taken one.
-fn rivalled_end(foes: &[u64], makers: &[u64], n: usize, c: u32) -> Found
+fn rivalled_end(foes: &[u64], makers: &[u64], n: usize, c: u32) -> Option<u8>
     requires { (n ≤ length foes.now) × (n ≤ length makers.now) × (n ≤ limits.most_ends) }
     ensures { found result ≡ first_rivalled foes.now makers.now n c }
 {
-    let mut k: usize = 0;
-    while k < n {
+    for k in 0..n {
         if is_rivalled(foes, makers, n, c, k) {
-            return Found::At(k as u8);
+            return Some(k as u8);
         }
-        k += 1;
     }
-    Found::Nothing
+    None
 }
 
 // The same, by the word w of the makers of taken ends: where it has no foe of a taken end, none competes.
-fn competing_end(foes: &[u64], makers: &[u64], n: usize, c: u32, w: u64) -> Found
+fn competing_end(foes: &[u64], makers: &[u64], n: usize, c: u32, w: u64) -> Option<u8>
     requires { (n ≤ length foes.now) × (n ≤ length makers.now) × (n ≤ limits.most_ends) }
     ensures { ((y : ℕ) → has w y ≡ makes makers.now n c y) → found result ≡ first_rivalled foes.now makers.now n c }
 {
     if ends_masks::all_makers(foes, n, c) & w == 0 {
-        return Found::Nothing;
+        return None;
     }
     rivalled_end(foes, makers, n, c)
 }
@@ -94,10 +85,8 @@ fn fill_passed(node: &[u8], parents: &[u64], rows: usize, w: u64, passed: &mut [
     requires { (rows ≤ length node.now) × (rows ≤ length parents.now) × (rows ≤ limits.most_offers) }
     ensures { Blank passed.old → PassedOn node.now parents.now w rows passed.new }
 {
-    let mut y: usize = 0;
-    while y < rows {
+    for y in 0..rows {
         add_offers(passed, wire::wide(node[y]), made_from(parents, w, y));
-        y += 1;
     }
 }
 
@@ -141,14 +130,12 @@ fn mark_parted(
     requires { Spans t.now table × (rows ≤ length node.now) × (rows ≤ length parents.now) × (rows ≤ limits.most_offers) × (table.nodes ≤ length passed.now) × (table.nodes ≤ length parted.old) }
     ensures { PassedOn node.now parents.now w rows passed.now → Blank parted.old → MarksOf (parted_at node.now parents.now rows w t.now) table.nodes parted.new }
 {
-    let mut z: usize = 0;
-    while z < rows {
+    for z in 0..rows {
         words::mark(
             parted,
             is_left_out(t, table, node, parents, w, passed, z),
             wire::wide(node[z]),
         );
-        z += 1;
     }
 }
 
@@ -160,7 +147,7 @@ fn parted_fork<'a>(
     parents: &'a [u64],
     rows: usize,
     w: u64,
-) -> Found
+) -> Option<u8>
     requires { Spans t.now table × (rows ≤ length node.now) × (rows ≤ length parents.now) × (rows ≤ limits.most_offers) }
     ensures { found result ≡ forks_in node.now parents.now rows w t.now }
 {
@@ -181,7 +168,7 @@ pub fn judge(
     ends: Ends,
     kept: [u8; Table::MOST_NODES],
     c: u32,
-) -> Judged
+) -> Result<(), Refusal>
     requires { (table_read t.now ≡ good table) × Full offers × EndsFull ends × (length kept ≡ limits.most_nodes) }
     ensures { said result ≡ judged_by (row_rules t.now offers ends kept kept) c }
 {
@@ -189,14 +176,14 @@ pub fn judge(
     let makers = ends.makers;
     let n = ends.count;
     let w = ends_masks::all_makers(&makers, n, c);
-    if let Found::At(k) = competing_end(&foes, &makers, n, c, w) {
-        return Judged::Refused(10, k);
+    if let Some(k) = competing_end(&foes, &makers, n, c, w) {
+        return Err(Refusal::Rivals(k));
     }
-    if let Found::At(i) = parted_fork(t, table, &offers.node, &offers.parents, offers.count, w) {
-        return Judged::Refused(11, i);
+    if let Some(i) = parted_fork(t, table, &offers.node, &offers.parents, offers.count, w) {
+        return Err(Refusal::Fork(i));
     }
-    if let Found::At(i) = choice_agree::unfit_node(t, table, ends, kept, c) {
-        return Judged::Refused(12, i);
+    if let Some(i) = choice_agree::unfit_node(t, table, ends, kept, c) {
+        return Err(Refusal::Destination(i));
     }
-    Judged::Fine
+    Ok(())
 }

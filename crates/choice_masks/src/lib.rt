@@ -25,10 +25,8 @@ pub fn fill_masks(masks: &mut [u32], column: &[u8], n: usize)
     requires { Blank masks.old × (n ≤ length column.now) × (n ≤ limits.most_ends) }
     ensures { Masked column.now n masks.new }
 {
-    let mut k: usize = 0;
-    while k < n {
+    for k in 0..n {
         add_end(masks, wire::wide(column[k]), k);
-        k += 1;
     }
 }
 

@@ -19,7 +19,8 @@ use Rattle.ends_paths.proofs.Walks.{length_run}
 use Rattle.ends_paths.proofs.Insertion.{in_order-inside}
 use Rattle.ends_paths.proofs.Slots.{paths-few}
 use Rattle.ends.specs.Ends.{Stored, Told}
-use Rattle.ends.specs.declared.EndsAnswer.TheVariants.{Good, Refused}
+use Rattle.std.specs.Prelude.{Ok, Err}
+use Rattle.wire.specs.declared.Refusal.TheVariants.{Size}
 use Rattle.ends_order.specs.Order.{by_end, list_of, shown}
 use Rattle.ends.specs.Slots.{end_rows}
 use Rattle.ends.proofs.Order.{paths_legible}
@@ -28,10 +29,10 @@ use Rattle.ends.proofs.Meaning.{Done, rows-are-ends, slot_found, paths-number, l
 
 -- row 8
 pub told-many : (t rows a b : List ℕ) (show : Bool) (ends order lens cells : List ℕ) → limits.most_ends < length (end_rows t a b (edges t))
-    → Told (Refused 8 0) t rows a b show ends order lens cells
+    → Told (Err Size) t rows a b show ends order lens cells
 told-many t rows a b show ends order lens cells h m goes c y =
     let ts = gather (on_edge t goes m) y.order in
-    (refl, (refl, omega (arith, h, ends-length t (offers t goes m), ap length (rows-are-ends rows c y), length-each (nth ts) (end_rows t a b (edges t)))))
+    (refl, omega (arith, h, ends-length t (offers t goes m), ap length (rows-are-ends rows c y), length-each (nth ts) (end_rows t a b (edges t))))
 
 module _ {t a b rows found keys : List ℕ} {n : ℕ} {show : Bool} {ends order lens cells : List ℕ} (d : Done t a b rows found keys n show ends order lens cells) where
   abbrev sorted : List ℕ
@@ -62,7 +63,7 @@ module _ {t a b rows found keys : List ℕ} {n : ℕ} {show : Bool} {ends order 
   unfolding list_of
   list-entry s j u = sym (run-entry [] (λ i. path_in lens cells (at sorted i)) (first_block s) (paths_of rows found s) j u)
 
-  pub told-good : block_cells ≤ length cells → Told (Good n) t rows a b show ends order lens cells
+  pub told-good : block_cells ≤ length cells → Told (Ok n) t rows a b show ends order lens cells
   told-good room m goes c y = record {
     number = sym (length_run (λ k. nth ts (at found (at slots k))) 0 n) ∙ ap length (slots-are rows c y d);
     few = d.few;

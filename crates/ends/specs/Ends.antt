@@ -1,5 +1,5 @@
 -- The ends of a table in the paper's order, each a row of the offer list, and their paths in order, in lent slices. Assumes nothing.
-use Rattle.std.specs.Prelude.{◌≡◌, Bool, true, List, [], ℕ, ◌+◌, ◌≤◌, ◌<◌, length, get_or, take, drop}
+use Rattle.std.specs.Prelude.{◌≡◌, Bool, true, List, [], ℕ, ◌+◌, ◌≤◌, ◌<◌, length, get_or, take, drop, Result, Ok, Err}
 use Rattle.paper.specs.Lists.{at, gather}
 use Rattle.paper.specs.Limits.{limits}
 use Rattle.paper.specs.Marking.{Marking}
@@ -8,8 +8,8 @@ use Rattle.offers.specs.Sets.{nth}
 use Rattle.offers.specs.Rows.{Ranges, row_cells, rows_in}
 use Rattle.offers_all.specs.Stages.{Gates, on_edge, Whole}
 use Rattle.ends_paths.specs.Blocks.{most_blocks, block_cells, first_block, path_start}
-use Rattle.ends.specs.declared.EndsAnswer.{EndsAnswer}
-use Rattle.ends.specs.declared.EndsAnswer.TheVariants.{Good, Refused}
+use Rattle.wire.specs.declared.Refusal.{Refusal}
+use Rattle.wire.specs.declared.Refusal.TheVariants.{Size}
 
 -- room for all ends and their paths
 pub record Rooms (ends order lens cells : List ℕ) : Type 0 where
@@ -45,12 +45,12 @@ pub record EndsListed (ts es : List Offer) (show : Bool) (ends order lens cells 
       → Stored lens cells (at order (first_block k + j)) (get_or (sorted_paths (nth ts (at ends k))) j [])
 
 -- the ends are listed, or there are too many: row 8
-abbrev pub Arranged : EndsAnswer → List Offer → List Offer → Bool → List ℕ → List ℕ → List ℕ → List ℕ → Type 0
-Arranged (Good n) ts es show ends order lens cells = EndsListed ts es show ends order lens cells n
-Arranged (Refused n p) ts es show ends order lens cells = (n ≡ 8) × ((p ≡ 0) × (limits.most_ends < length es))
+abbrev pub Arranged : Result ℕ Refusal → List Offer → List Offer → Bool → List ℕ → List ℕ → List ℕ → List ℕ → Type 0
+Arranged (Ok n) ts es show ends order lens cells = EndsListed ts es show ends order lens cells n
+Arranged (Err e) ts es show ends order lens cells = (e ≡ Size) × (limits.most_ends < length es)
 
 -- of every offer list whose rows are lent, and whose edges have their offers from a to b
-abbrev pub Told : EndsAnswer → List ℕ → List ℕ → List ℕ → List ℕ → Bool → List ℕ → List ℕ → List ℕ → List ℕ → Type 0
+abbrev pub Told : Result ℕ Refusal → List ℕ → List ℕ → List ℕ → List ℕ → Bool → List ℕ → List ℕ → List ℕ → List ℕ → Type 0
 Told x t rows a b show ends order lens cells =
     (m : Marking) (goes : Gates) (c : ℕ) (y : Whole t m goes (rows_in rows c) a b)
     → Arranged x (gather (on_edge t goes m) y.order) (endsOf t (offers t goes m)) show ends order lens cells

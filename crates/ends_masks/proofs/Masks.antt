@@ -27,9 +27,6 @@ use Rattle.ends_masks.specs.Seating.{Columns, makes}
 pub marks_fit : {p : ℕ → Bool} {n w : ℕ} → Marks p n w → n ≤ limits.most_ends → w < 4294967296
 marks_fit {p} {n} {w} m l = lt_of_lt_of_le m.small (let h : n ≤ 32 = omega arith in pow_mono h)
 
-pub marks-all : {p : ℕ → Bool} {k n w : ℕ} → k ≡ n → Marks p k w → Marks p n w
-marks-all e m = rw (sym e) m
-
 -- ---- columns
 pub column_more : (f : ℕ → ℕ) (l : List ℕ) (k v : ℕ) → k < length l → v ≡ f k → ((j : ℕ) → j < k → at l j ≡ f j)
     → (j : ℕ) → j < k + 1 → at (set l k v) j ≡ f j

@@ -19,6 +19,7 @@ use table::Table;
 
 // The ends of a board, in order: each one's row of the offer list, its last edge, its target, the node that the target belongs to, and the words of its makers
 // and foes.
+// kept: a struct of arrays in fixed memory, since loops that run often are lent one column of it.
 #[derive(Clone, Copy)]
 pub struct Ends {
     pub row: [u8; MOST_ENDS],
@@ -57,14 +58,12 @@ fn columns(
     requires { (table_read t.now ≡ good table) × Seatable rows.now ends.now n table.edges × (n ≤ length edge.old) × (n ≤ length target.old) × (n ≤ length home.old) }
     ensures { Columns t.now rows.now ends.now edge.new target.new home.new n }
 {
-    let mut k: usize = 0;
-    while k < n {
+    for k in 0..n {
         let e = offers::last_of(rows, wire::wide(ends[k]));
         let to = table.target(t, wire::wide(e));
         edge[k] = e;
         target[k] = to as u8;
         home[k] = home_of(t, table, to);
-        k += 1;
     }
 }
 
@@ -74,10 +73,8 @@ fn words_of(rows: &[u64], i: usize, ends: &[u8], n: usize) -> [u64; MOST_ENDS]
     ensures { (length result ≡ limits.most_ends) × ((k : ℕ) → k < n → at result k ≡ cell rows.now (at ends.now k) i) }
 {
     let mut to = [0u64; MOST_ENDS];
-    let mut k: usize = 0;
-    while k < n {
+    for k in 0..n {
         to[k] = rows[offers::WIDTH * wire::wide(ends[k]) + i];
-        k += 1;
     }
     to
 }
@@ -88,11 +85,7 @@ fn rows_of(ends: &[u8], n: usize) -> [u8; MOST_ENDS]
     ensures { (length result ≡ limits.most_ends) × ((k : ℕ) → k < n → at result k ≡ at ends.now k) }
 {
     let mut to = [0u8; MOST_ENDS];
-    let mut k: usize = 0;
-    while k < n {
-        to[k] = ends[k];
-        k += 1;
-    }
+    to[..n].copy_from_slice(&ends[..n]);
     to
 }
 
@@ -118,13 +111,17 @@ pub fn seat(t: &[u8], table: Table, rows: &[u64], ends: &[u8], n: usize) -> Ends
 
 // ---- words, one digit after another
 
-// The word w of the numbers below k that pass, and k too if it does.
-fn mark(w: u64, k: usize, on: bool) -> u64
-    requires { k < 64 }
-    ensures { (p : ℕ → Bool) → on ≡ p k → Marks p k w → Marks p (k + 1) result }
+// The word of the numbers below n that pass.
+fn passing<P: Fn(usize) -> bool>(n: usize, passes: P) -> u64
+    requires few { n ≤ 64 }
+    requires callable { (k : ℕ) → k < n → P.pre passes k }
+    ensures { (p : ℕ → Bool) → ((k : ℕ) (on : Bool) → k < n → P.post passes k on → on ≡ p k) → Marks p n result }
 {
-    if on {
-        return w | words::bit_of(k);
+    let mut w: u64 = 0;
+    for k in 0..n {
+        if passes(k) {
+            w |= words::bit_of(k);
+        }
     }
     w
 }
@@ -134,13 +131,7 @@ pub fn same(column: &[u8], n: usize, x: usize) -> u32
     requires { (n ≤ length column.now) × (n ≤ limits.most_ends) }
     ensures { Marks (λ k. eqb (at column.now k) x) n result }
 {
-    let mut w: u64 = 0;
-    let mut k: usize = 0;
-    while k < n {
-        w = mark(w, k, wire::wide(column[k]) == x);
-        k += 1;
-    }
-    w as u32
+    passing(n, |k| wire::wide(column[k]) == x) as u32
 }
 
 // The ends that have a row of the word w among their makers.
@@ -148,13 +139,7 @@ pub fn made(makers: &[u64], n: usize, rows: u64) -> u32
     requires { (n ≤ length makers.now) × (n ≤ limits.most_ends) }
     ensures { Marks (λ k. not (eqb (bit_and (at makers.now k) rows) 0)) n result }
 {
-    let mut w: u64 = 0;
-    let mut k: usize = 0;
-    while k < n {
-        w = mark(w, k, makers[k] & rows != 0);
-        k += 1;
-    }
-    w as u32
+    passing(n, |k| makers[k] & rows != 0) as u32
 }
 
 // Whether ends k and j compete.
@@ -173,13 +158,7 @@ pub fn rivals(foes: &[u64], makers: &[u64], n: usize, k: usize) -> u32
     requires { (n ≤ length foes.now) × (n ≤ length makers.now) × (k < n) × (n ≤ limits.most_ends) }
     ensures { Marks (rival foes.now makers.now k) n result }
 {
-    let mut w: u64 = 0;
-    let mut j: usize = 0;
-    while j < n {
-        w = mark(w, j, are_rivals(foes, makers, k, j));
-        j += 1;
-    }
-    w as u32
+    passing(n, |j| are_rivals(foes, makers, k, j)) as u32
 }
 
 // Whether rows y and z leave the same node and were made from an offer in common.
@@ -198,13 +177,7 @@ pub fn family(node: &[u8], parents: &[u64], rows: usize, z: usize) -> u64
     requires { (rows ≤ length node.now) × (rows ≤ length parents.now) × (rows ≤ limits.most_offers) × (z < rows) }
     ensures { Marks (λ y. siblings node.now parents.now y z) rows result }
 {
-    let mut w: u64 = 0;
-    let mut y: usize = 0;
-    while y < rows {
-        w = mark(w, y, are_siblings(node, parents, y, z));
-        y += 1;
-    }
-    w
+    passing(rows, |y| are_siblings(node, parents, y, z))
 }
 
 // The makers of end k, if it is taken.
@@ -224,10 +197,8 @@ pub fn all_makers(makers: &[u64], n: usize, c: u32) -> u64
     ensures { (y : ℕ) → has result y ≡ makes makers.now n c y }
 {
     let mut w: u64 = 0;
-    let mut k: usize = 0;
-    while k < n {
+    for k in 0..n {
         w = w | makers_if_taken(makers, c, k);
-        k += 1;
     }
     w
 }

@@ -9,6 +9,9 @@ use Rattle.paper.specs.Answers.{refused, good}
 use Rattle.paper.specs.Offers.{Terms}
 use Rattle.paper.specs.Choices.{board}
 use Rattle.paper.specs.Operations.{sheet, step, PickOn, Pick, WhyIf, Why, packed, in_room, Reply, Leaves}
+use Rattle.std.specs.Prelude.{Err}
+use Rattle.wire.specs.declared.Refusal.{Refusal}
+use Rattle.wire.specs.Refusals.{number, place, word_of}
 use Rattle.table.specs.Reading.{table_read}
 use Rattle.offers.specs.declared.Offers.{Offers}
 use Rattle.offers.specs.Rows.{row_cells}
@@ -27,7 +30,7 @@ use Rattle.keshmirun.specs.Asking.{Counted, shows, Responds}
 
 module _ (t b : List ℕ) (w : Terms) (ks : List ℕ) where
   -- ---- rows 1 to 8, and 18
-  pub asked_refused : (q : Request) (n p word : ℕ) (out : List ℕ) → board t b w ≡ refused n p → word ≡ packed n p 0 → Responds q t b w ks word out out
+  asked_refused : (q : Request) (n p word : ℕ) (out : List ℕ) → board t b w ≡ refused n p → word ≡ packed n p 0 → Responds q t b w ks word out out
   unfolding sheet Pick Why step Counted
   asked_refused Sheet n p word out e h = record { answer = refused n p; allowed = sym (rw e); reply = (h, refl) }
   asked_refused (Choice (PickFor i)) n p word out e h = record { answer = refused n p; allowed = rw e refl; reply = (h, refl) }
@@ -35,8 +38,12 @@ module _ (t b : List ℕ) (w : Terms) (ks : List ℕ) where
   asked_refused (Choice Step) n p word out e h = record { answer = refused n p; allowed = sym (rw e); reply = (h, refl) }
   asked_refused (Choice (Count i k)) n p word out e h = (rw e h, refl)
 
-  pub table-refused : (q : Request) (n p word : ℕ) (out : List ℕ) → table_read t ≡ refused n p → word ≡ packed n p 0 → Responds q t b w ks word out out
-  table-refused q n p word out e h = asked_refused q n p word out (board-refused t b w n p e) h
+  -- by the refusal's name
+  pub asked_err : (q : Request) (v : Refusal) (out : List ℕ) → board t b w ≡ refused (number v) (place v) → Responds q t b w ks (word_of (Err v)) out out
+  asked_err q v out e = asked_refused q (number v) (place v) _ out e refl
+
+  pub table-refused : (q : Request) (v : Refusal) (out : List ℕ) → table_read t ≡ refused (number v) (place v) → Responds q t b w ks (word_of (Err v)) out out
+  table-refused q v out e = asked_err q v out (board-refused t b w (number v) (place v) e)
 
   -- ---- on a board
   module _ {o : Offers} {e : Ends} {x : Held} (y : Standing t b o e x) (is-board : board t b w ≡ good y.on) (q : Request) (word : ℕ) (out after : List ℕ) where

@@ -1,17 +1,17 @@
-// What is asked about a board, by sheet, pick, why and step: the marking and the terms are read, the board is laid over what was read, and the request is
-// answered on it. How far a search goes is asked here too. The table's bytes were read as a table.
+// What is asked about a board, by sheet, pick, why and step: the table, the marking and the terms are read, the board is laid over what was read, and the
+// request is answered on it. How far a search goes is asked here too. Assumes nothing of what is lent (`ask`).
 ghost use Rattle.std.specs.Prelude.{◌≡◌};
 ghost use Rattle.paper.specs.Answers.{good};
 ghost use Rattle.paper.specs.Offers.{terms};
 ghost use Rattle.table.specs.Reading.{table_read};
 ghost use Rattle.terms.specs.Terms.{terms_fine};
 ghost use Rattle.marking_held.specs.MarkingHeld.{LiveMarking, fields_held};
+ghost use Rattle.wire.specs.Refusals.{word_of};
 ghost use Rattle.keshmirun.specs.Asking.{shows, Responds};
 
-use ends::EndsAnswer;
-use marking::{Fields, MarkingAnswer};
+use marking::Fields;
 use table::Table;
-use terms::TermsAnswer;
+use wire::Refusal;
 
 // What is asked of the choices of a board: the pick for a node, the reason for a node, the step by a choice, or how many states the search for a node visits,
 // k levels past the first.
@@ -51,9 +51,9 @@ fn respond(
     request: Request,
     choice: &[u8],
     out: &mut [u8],
-) -> u64
+) -> Result<usize, Refusal>
     requires { (table_read t.now ≡ good table) × LiveMarking t.now b.now (fields_held fields) × (terms_fine t.now g.now bounds.now ≡ good tt) }
-    ensures { Responds request t.now b.now (terms g.now bounds.now) choice.now result out.old out.new }
+    ensures { Responds request t.now b.now (terms g.now bounds.now) choice.now (word_of result) out.old out.new }
 {
     let mut rows = [0u64; offers::CELLS];
     let mut found = [0u8; offers::MOST_ENDS];
@@ -73,12 +73,8 @@ fn respond(
         &mut order,
         &mut lens,
         &mut cells,
-    );
-    let answer = board.answer;
-    let n = match answer {
-        EndsAnswer::Good(n) => n,
-        EndsAnswer::Refused(number, place) => return wire::pack(number, place, 0),
-    };
+    )?;
+    let n = board.ends;
     let asked = match request {
         Request::Sheet => return sheet_write::show(&rows, &found, &order, &lens, &cells, n, out),
         Request::Choice(asked) => asked,
@@ -90,35 +86,31 @@ fn respond(
         Query::Pick(node) => pick::pick(t, table, offers, ends, kept, node, out),
         Query::Why(node) => why::why(t, table, offers, ends, kept, node, out),
         Query::Step => step::step(t, table, b, choice, offers, ends, fields, out),
-        Query::Count(node, k) => why::states(t, table, offers, ends, kept, node, k) as u64,
+        Query::Count(node, k) => Ok(why::states(t, table, offers, ends, kept, node, k)),
     }
 }
 
-// The marking and the terms are read (rows 5 to 7, and 18), and the request answered.
+// The table, the marking and the terms are read (rows 1 to 7, and 18), and the request answered.
 pub fn ask(
     t: &[u8],
-    table: Table,
     b: &[u8],
     g: &[u8],
     bounds: &[u8],
     request: Request,
     choice: &[u8],
     out: &mut [u8],
-) -> u64
-    requires { table_read t.now ≡ good table }
-    ensures { Responds request t.now b.now (terms g.now bounds.now) choice.now result out.old out.new }
+) -> Result<usize, Refusal>
+    ensures { Responds request t.now b.now (terms g.now bounds.now) choice.now (word_of result) out.old out.new }
 {
+    let table = table_read::read(t)?;
     let mut from = [0u16; Table::MOST_NODES];
     let mut kept = [0u8; Table::MOST_NODES];
     let mut tokens = [0u8; Table::MOST_EDGES];
-    match marking::read(t, table, b, &mut from, &mut kept, &mut tokens) {
-        MarkingAnswer::Live => {}
-        MarkingAnswer::Ended => return wire::pack(6, 0, 0),
-        MarkingAnswer::Refused(number, place) => return wire::pack(number, place, 0),
+    let ended = marking::read(t, table, b, &mut from, &mut kept, &mut tokens)?;
+    if ended {
+        return Err(Refusal::Ended);
     }
-    if let TermsAnswer::Refused(number, place) = terms::read(t, table, g, bounds) {
-        return wire::pack(number, place, 0);
-    }
+    terms::read(t, table, g, bounds)?;
     let fields = Fields {
         from: from,
         kept: kept,

@@ -1,4 +1,4 @@
-// The operations that the tablet app calls, over numbers and byte slices. Each takes its readers' answers apart and returns early with the first refusal.
+// The operations that the tablet app calls, over numbers and byte slices: each returns early with the first refusal, and packs its answer in one word.
 // Assumes nothing: what is lent is judged here.
 #![tactic(auto)]
 
@@ -18,10 +18,11 @@ ghost use Rattle.paper.specs.Operations.{
   Pick,
   Why,
 };
+ghost use Rattle.wire.specs.Refusals.{word_of};
 ghost use Rattle.keshmirun.specs.Asking.{Counted};
 
 use asking::{Query, Request, ask};
-use table::TableAnswer;
+use wire::{Refusal, word};
 
 // The bounds list with count 0, which bars nothing.
 pub const NO_BOUNDS: [u8; 4] = [0, 2, 1, 0];
@@ -30,20 +31,27 @@ pub const NO_BOUNDS: [u8; 4] = [0, 2, 1, 0];
 pub fn check(table: &[u8]) -> u64
     ensures { Leaves (Only (checked table.now)) result [] [] }
 {
-    if let TableAnswer::Refused(number, place) = table_read::read(table) {
-        return wire::pack(number, place, 0);
-    }
-    wire::pack(0, 0, 0)
+    word(try_check(table))
+}
+
+fn try_check(table: &[u8]) -> Result<usize, Refusal>
+    ensures { Leaves (Only (checked table.now)) (word_of result) [] [] }
+{
+    table_read::read(table)?;
+    Ok(0)
 }
 
 // The marking with which an activity begins.
 pub fn start(table: &[u8], values: &[u8], out: &mut [u8]) -> u64
     ensures { Leaves (Only (started table.now values.now)) result out.old out.new }
 {
-    let x = match table_read::read(table) {
-        TableAnswer::Good(x) => x,
-        TableAnswer::Refused(number, place) => return wire::pack(number, place, 0),
-    };
+    word(try_start(table, values, out))
+}
+
+fn try_start(table: &[u8], values: &[u8], out: &mut [u8]) -> Result<usize, Refusal>
+    ensures { Leaves (Only (started table.now values.now)) (word_of result) out.old out.new }
+{
+    let x = table_read::read(table)?;
     start_finish::start(table, x, values, out)
 }
 
@@ -51,11 +59,7 @@ pub fn start(table: &[u8], values: &[u8], out: &mut [u8]) -> u64
 pub fn sheet(table: &[u8], marking: &[u8], guards: &[u8], bounds: &[u8], out: &mut [u8]) -> u64
     ensures { Leaves (Only (shown table.now marking.now (terms guards.now bounds.now))) result out.old out.new }
 {
-    let x = match table_read::read(table) {
-        TableAnswer::Good(x) => x,
-        TableAnswer::Refused(number, place) => return wire::pack(number, place, 0),
-    };
-    ask(table, x, marking, guards, bounds, Request::Sheet, b"", out)
+    word(ask(table, marking, guards, bounds, Request::Sheet, b"", out))
 }
 
 // The first acceptable choice, or the first that has an end of the named node; 255 names none.
@@ -69,20 +73,15 @@ pub fn pick(
 ) -> u64
     ensures { Leaves (Pick table.now marking.now (terms guards.now bounds.now) node) result out.old out.new }
 {
-    let x = match table_read::read(table) {
-        TableAnswer::Good(x) => x,
-        TableAnswer::Refused(number, place) => return wire::pack(number, place, 0),
-    };
-    ask(
+    word(ask(
         table,
-        x,
         marking,
         guards,
         bounds,
         Request::Choice(Query::Pick(node)),
         b"",
         out,
-    )
+    ))
 }
 
 // The reason for which a named node has no acceptable choice, the first level at which none is left: 1 no end belongs to it; 2 its own destination rule;
@@ -97,20 +96,15 @@ pub fn why(
 ) -> u64
     ensures { Leaves (Why table.now marking.now (terms guards.now bounds.now) node) result out.old out.new }
 {
-    let x = match table_read::read(table) {
-        TableAnswer::Good(x) => x,
-        TableAnswer::Refused(number, place) => return wire::pack(number, place, 0),
-    };
-    ask(
+    word(ask(
         table,
-        x,
         marking,
         guards,
         bounds,
         Request::Choice(Query::Why(node)),
         b"",
         out,
-    )
+    ))
 }
 
 // How many states the search of why visits at a level, k levels past the first (from 4 on it is pick's), or the word of a refusal of rows 1 to 8 or 18: a
@@ -118,21 +112,16 @@ pub fn why(
 pub fn visits(table: &[u8], marking: &[u8], guards: &[u8], bounds: &[u8], node: u8, k: usize) -> u64
     ensures { Counted (board table.now marking.now (terms guards.now bounds.now)) result }
 {
-    let x = match table_read::read(table) {
-        TableAnswer::Good(x) => x,
-        TableAnswer::Refused(number, place) => return wire::pack(number, place, 0),
-    };
     let mut nothing = [0u8; 0];
-    ask(
+    word(ask(
         table,
-        x,
         marking,
         guards,
         bounds,
         Request::Choice(Query::Count(node, k)),
         b"",
         &mut nothing,
-    )
+    ))
 }
 
 // The marking after the ends of a choice are taken.
@@ -146,29 +135,33 @@ pub fn step(
 ) -> u64
     ensures { Leaves (Only (stepped table.now marking.now (terms guards.now bounds.now) choice.now)) result out.old out.new }
 {
-    let x = match table_read::read(table) {
-        TableAnswer::Good(x) => x,
-        TableAnswer::Refused(number, place) => return wire::pack(number, place, 0),
-    };
-    ask(
+    word(ask(
         table,
-        x,
         marking,
         guards,
         bounds,
         Request::Choice(Query::Step),
         choice,
         out,
-    )
+    ))
 }
 
 // The marking after an action ends, with the values of its output pins.
 pub fn finish(table: &[u8], marking: &[u8], action: u8, values: &[u8], out: &mut [u8]) -> u64
     ensures { Leaves (Only (finished table.now marking.now action values.now)) result out.old out.new }
 {
-    let x = match table_read::read(table) {
-        TableAnswer::Good(x) => x,
-        TableAnswer::Refused(number, place) => return wire::pack(number, place, 0),
-    };
+    word(try_finish(table, marking, action, values, out))
+}
+
+fn try_finish(
+    table: &[u8],
+    marking: &[u8],
+    action: u8,
+    values: &[u8],
+    out: &mut [u8],
+) -> Result<usize, Refusal>
+    ensures { Leaves (Only (finished table.now marking.now action values.now)) (word_of result) out.old out.new }
+{
+    let x = table_read::read(table)?;
     start_finish::finish(table, x, marking, action, values, out)
 }

@@ -34,10 +34,8 @@ fn put_edge(t: &mut [u8], nodes: usize, j: usize, source: usize, target: usize)
 fn put_edges(t: &mut [u8], nodes: usize, width: usize)
     requires { (nodes ≤ limits.most_nodes + 1) × (width ≤ limits.most_edges + 1) × (most_table ≤ length t.old) }
 {
-    let mut j: usize = 0;
-    while j < width {
+    for j in 0..width {
         put_edge(t, nodes, j, 0, 1);
-        j += 1;
     }
 }
 
@@ -58,10 +56,8 @@ pub fn nodes_alone(t: &mut [u8], nodes: usize) -> usize
     requires { (nodes ≤ limits.most_nodes + 1) × (most_table ≤ length t.old) }
     ensures { result ≡ 5 + 4 * nodes }
 {
-    let mut i: usize = 0;
-    while i < nodes {
+    for i in 0..nodes {
         put_node(t, i, Table::ACTIVITY_FINAL, 0);
-        i += 1;
     }
     put_header(t, nodes, 0)
 }
@@ -87,11 +83,9 @@ pub fn chained(t: &mut [u8], width: usize, chain: usize) -> usize
     put_node(t, 0, Table::INITIAL, 0);
     put_node(t, nodes - 1, Table::ACTIVITY_FINAL, 0);
     put_edges(t, nodes, width);
-    let mut i: usize = 1;
-    while i <= chain {
+    for i in 1..chain + 1 {
         put_node(t, i, Table::DECISION + i % 4, 0);
         put_edge(t, nodes, width + i - 1, i, i + 1);
-        i += 1;
     }
     put_header(t, nodes, width + chain)
 }

@@ -7,7 +7,7 @@ ghost use Rattle.paper.specs.Limits.{limits};
 ghost use Rattle.table.specs.Reading.{Holdable};
 
 use std::io;
-use table::{Limits, Table, TableAnswer};
+use table::{Limits, Table};
 
 mod building;
 mod telling;
@@ -34,10 +34,7 @@ fn read_under(
 ) -> io::Result<()>
     requires { (len ≤ length bytes.now) × Holdable most }
 {
-    let word = match table_read::read_under(&bytes[..len], most) {
-        TableAnswer::Good(_) => wire::pack(0, 0, 0),
-        TableAnswer::Refused(number, place) => wire::pack(number, place, 0),
-    };
+    let word = wire::word(table_read::read_under(&bytes[..len], most).map(|_| 0));
     telling::tried(rt, n, what, word)?;
     telling::number(rt, b", under ", most.nodes)?;
     telling::number(rt, b" and ", most.edges)?;

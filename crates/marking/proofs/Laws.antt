@@ -4,13 +4,13 @@ use Prim.Native.Nat.{ℕ, suc, ◌+◌, ◌-◌, ◌*◌, ◌≤◌, ◌<◌}
 use native.Mathlib.Omega.{arith}
 use mathlib.Core.Bool.{Bool, true, false, not, ◌&&◌, ◌||◌, cond, beq}
 use mathlib.Core.List.{List, [], ◌∷◌, ◌++◌, append-nil}
-use mathlib.Core.Option.{Option, none, some}
+use mathlib.Core.Option.{Option as Maybe, none, some}
 use lib.Dec.{leb, ltb, eqb}
 use lib.ListN.{length, drop, set, length-drop, length-append}
 use lib.Seq.{get_or-set_same, get_or-set_other, get_or-drop, take_at, drop-cons}
 use borrow.Author.Tests.{eq-eqb, ne_eqb, eqb-true, eqb-false, ltb-true, le-leb, lt-leb}
 use Rattle.paper.specs.Lists.{at, all, from, below, keep, each, gather, one_if, within, ◌⇒◌}
-use Rattle.paper.specs.Answers.{refused, good}
+use Rattle.paper.specs.Answers.{good}
 use Rattle.paper.specs.Bytes.{go_on, ◌>>=◌, done, fail, whole, framed, byte, values_read, up_to, four, listed}
 use Rattle.paper.specs.Table.{nodes, edges, is_pin, is_outgoing, kind, owner, lower, upper, is_input, source, is_object, is_initial, is_object_node, is_action, may_leave}
 use Rattle.paper.specs.Marking.{Marking, blank, Field, stockOf, runsOf, tokensOf, written, counted, node_fields, field_read, fields_read, layout, pin_fine, cleared, marking_fine, marking_read, marking}
@@ -28,19 +28,17 @@ use Rattle.paper.proofs.OneMarking.{Taken, fields_are, content_read, put, put_en
 use Rattle.table.specs.declared.Table.{Table}
 use Rattle.table.specs.Reading.{table_read}
 use Rattle.table.proofs.Reading.{read-good as table-read, read-spans}
-use Rattle.marking.specs.Reading.{Reads, NodeRead, EdgeRead, NodesRead, EdgesRead, edge_fields, node_clear, edge_clear, Head, Walked, Walk, said, MarkingRead}
+use Rattle.marking.specs.Reading.{Reads, NodeRead, EdgeRead, NodesRead, EdgesRead, edge_fields, node_clear, edge_clear, Head, Walked, Walk}
 use Rattle.marking.specs.Values.{ValuesNoted}
-use Rattle.marking.specs.declared.reading.MarkingAnswer.{MarkingAnswer}
-use Rattle.marking.specs.declared.reading.Next.{Next}
-use Rattle.marking.specs.declared.reading.Next.TheVariants.{At, Bad}
+use Rattle.std.specs.Prelude.{Option, Some, None}
 
 -- what is read, made into something else
-pub reads_as : {A B : Type 0} (f : A → B) (r : Next) (o : Option (A × List ℕ)) (b : List ℕ) → Reads r o b → Reads r (go_on o (λ x. done (f x))) b
-reads_as f (At q) o b h = (f h.0, rw h.1, h.2)
-reads_as f Bad o b h = rw h
+pub reads_as : {A B : Type 0} (f : A → B) (r : Option ℕ) (o : Maybe (A × List ℕ)) (b : List ℕ) → Reads r o b → Reads r (go_on o (λ x. done (f x))) b
+reads_as f (Some q) o b h = (f h.0, rw h.1, h.2)
+reads_as f None o b h = rw h
 
 -- ---- a node's field
-module _ (t : List ℕ) (i : ℕ) (m : Marking) (r : Next) (b rest : List ℕ) where
+module _ (t : List ℕ) (i : ℕ) (m : Marking) (r : Option ℕ) (b rest : List ℕ) where
   pub stock_reads : is_object_node (kind t i) ≡ true → Reads r (values_read (upper t i) rest) b → Reads r (fields_read t (node_fields t i) m rest) b
   unfolding field_read
   stock_reads e h = rw e (reads_as (λ x. x) r _ b (reads_as _ r (values_read (upper t i) rest) b h))
@@ -76,7 +74,7 @@ module _ {t b : List ℕ} {F : ℕ → List Field} {N : Marking → ℕ → Type
   run_step : {N' : Marking → ℕ → Type 0} {p q i : ℕ} → Distinct (F i) → Bytes b
       → ((a m : Marking) → Taken t (F i) a (drop p b) m (drop q b) → N' m i)
       → ((k : ℕ) (a m : Marking) → eqb k i ≡ false → Taken t (F i) a (drop p b) m (drop q b) → N a k → N' m k)
-      → SoFar t b F N a o p i → ((m : Marking) → Reads (At q) (fields_read t (F i) m (drop p b)) b) → SoFar t b F N' a o q (i + 1)
+      → SoFar t b F N a o p i → ((m : Marking) → Reads (Some q) (fields_read t (F i) m (drop p b)) b) → SoFar t b F N' a o q (i + 1)
   run_step {N'} {p} {q} {i} once u here still s h =
       let x = h s.m in
       let w = fields_are t (F i) s.m (drop p b) x.0 (drop q b) once (λ k. rw (get_or-drop p b k 0) (u (p + k))) x.1 in
@@ -159,7 +157,7 @@ module _ (t b : List ℕ) (p q i : ℕ) (lp : p ≤ length b) (lq : q ≤ length
         by false o true r = omega (arith, field-length b p q (one_if (m.runs i) ∷ []) (runs-byte r) lp lq)
         by false o false r = omega (arith, field-length b p q [] (no_bytes o r) lp lq)
 
-  pub node-short : NodeFields t limits i → Bytes b → ((m : Marking) → Reads (At q) (fields_read t (node_fields t i) m (drop p b)) b) → q ≤ p + 65
+  pub node-short : NodeFields t limits i → Bytes b → ((m : Marking) → Reads (Some q) (fields_read t (node_fields t i) m (drop p b)) b) → q ≤ p + 65
   node-short f u h =
       let x = h (blank false) in
       field-short (blank false) x.0
@@ -177,7 +175,7 @@ abbrev pub NodesSoFar : List ℕ → List ℕ → Bool → List ℕ → List ℕ
 NodesSoFar t b e from kept p i = SoFar t b (node_fields t) (λ m k. NodeRead t m b k (at from k) (at kept k)) (blank e) 4 p i
 
 pub node-step : (t b from kept : List ℕ) (p q i x : ℕ) → Bytes b → i < length from → i < length kept → p ≤ length b → q ≤ length b → First b p q x
-    → (e : Bool) → NodesSoFar t b e from kept p i → ((m : Marking) → Reads (At q) (fields_read t (node_fields t i) m (drop p b)) b)
+    → (e : Bool) → NodesSoFar t b e from kept p i → ((m : Marking) → Reads (Some q) (fields_read t (node_fields t i) m (drop p b)) b)
     → NodesSoFar t b e (set from i (p + 1)) (set kept i x) q (i + 1)
 node-step t b from kept p q i x u lf lk lp lq f e =
     run_step (blank e) 4 (node-once t i) u
@@ -212,9 +210,9 @@ module _ (t : List ℕ) (j : ℕ) (m : Marking) (b : List ℕ) (p : ℕ) where
   pub uncounted_reads : counted t j ≡ false → fields_read t (edge_fields t j) m (drop p b) ≡ some (m, drop p b)
   uncounted_reads c = rw c
 
-  pub counted_reads : counted t j ≡ true → p < length b → Reads (At (p + 1)) (fields_read t (edge_fields t j) m (drop p b)) b
+  pub counted_reads : counted t j ≡ true → p < length b → Reads (Some (p + 1)) (fields_read t (edge_fields t j) m (drop p b)) b
   unfolding field_read
-  counted_reads c l = rw c (reads_as (λ x. x) (At (p + 1)) _ b (reads_as _ (At (p + 1)) (byte (drop p b)) b (at b p, byte_at b p l, omega arith)))
+  counted_reads c l = rw c (reads_as (λ x. x) (Some (p + 1)) _ b (reads_as _ (Some (p + 1)) (byte (drop p b)) b (at b p, byte_at b p l, omega arith)))
 
   pub counted_none : counted t j ≡ true → length b ≤ p → fields_read t (edge_fields t j) m (drop p b) ≡ none
   unfolding field_read
@@ -255,7 +253,7 @@ abbrev pub EdgesSoFar : List ℕ → List ℕ → Marking → ℕ → List ℕ �
 EdgesSoFar t b a o tokens p j = SoFar t b (edge_fields t) (λ m k. EdgeRead t m k (at tokens k)) a o p j
 
 pub edge-step : (t b tokens : List ℕ) (p q j x : ℕ) → Bytes b → j < length tokens → p ≤ length b → q ≤ length b → First b p q x
-    → (a : Marking) (o : ℕ) → EdgesSoFar t b a o tokens p j → ((m : Marking) → Reads (At q) (fields_read t (edge_fields t j) m (drop p b)) b)
+    → (a : Marking) (o : ℕ) → EdgesSoFar t b a o tokens p j → ((m : Marking) → Reads (Some q) (fields_read t (edge_fields t j) m (drop p b)) b)
     → EdgesSoFar t b a o (set tokens j x) q (j + 1)
 edge-step t b tokens p q j x u l lp lq f a o =
     run_step a o (edge-once t j) u
@@ -332,7 +330,7 @@ module _ (t : List ℕ) (m : Marking) where
       by false c = rw (c, h.bare c)
 
 -- ---- the head
-cond-none : {A : Type 0} (c : Bool) → ◌≡◌ {A = Option A} (cond c none none) none
+cond-none : {A : Type 0} (c : Bool) → ◌≡◌ {A = Maybe A} (cond c none none) none
 cond-none true = refl
 cond-none false = refl
 
@@ -343,7 +341,7 @@ pub unframed_if : (b : List ℕ) (n : ℕ) → n ≡ at b 0 * 256 + at b 1 → (
 unframed_if b n e h = ne_eqb (at b 0 * 256 + at b 1 + 2) (length b) (λ k. h (omega arith))
 
 -- what is left of reading once the head is fine
-abbrev pub judged : List ℕ → Option (Marking × List ℕ) → Option Marking
+abbrev pub judged : List ℕ → Maybe (Marking × List ℕ) → Maybe Marking
 judged t none = none
 judged t (some x) = whole (cond (marking_fine t x.0) (done x.0) fail x.1)
 
@@ -360,7 +358,7 @@ module _ (t : List ℕ) where
   unfolding marking
   unframed_none b e = rw e
 
-  version-out : (v : ℕ) → eqb v 1 ≡ false → (o : Option (Marking × List ℕ)) → whole (go_on o (λ m. cond (eqb v 1 && marking_fine t m) (done m) fail)) ≡ none
+  version-out : (v : ℕ) → eqb v 1 ≡ false → (o : Maybe (Marking × List ℕ)) → whole (go_on o (λ m. cond (eqb v 1 && marking_fine t m) (done m) fail)) ≡ none
   version-out v e none = refl
   version-out v e (some x) = rw e
 
@@ -384,7 +382,7 @@ module _ (t : List ℕ) where
   state-none (x ∷ (y ∷ (v ∷ []))) l n = absurd (omega arith)
   state-none (x ∷ (y ∷ (v ∷ (s ∷ c)))) l n = rw (lt-leb s 1 n) (cond-none (framed (x ∷ y ∷ v ∷ s ∷ c)))
 
-  then_judged : (o : Option (Marking × List ℕ)) → whole (go_on o (λ m. cond (eqb 1 1 && marking_fine t m) (done m) fail)) ≡ judged t o
+  then_judged : (o : Maybe (Marking × List ℕ)) → whole (go_on o (λ m. cond (eqb 1 1 && marking_fine t m) (done m) fail)) ≡ judged t o
   then_judged none = refl
   then_judged (some x) = refl
 
@@ -519,24 +517,3 @@ module _ {t b from kept tokens : List ℕ} where
   pub walk_by : (c : Bool) → (c ≡ true → Walked t b from kept tokens) → (c ≡ false → marking t b ≡ none) → Walk t b from kept tokens c
   walk_by true f g = f refl
   walk_by false f g = g refl
-
--- a walk that says true or false
-module _ (t b from kept tokens : List ℕ) where
-  pub walk_true : (c : Bool) → c ≡ true → Walk t b from kept tokens c → Walked t b from kept tokens
-  walk_true true e w = w
-  walk_true false e w = never false e refl
-
-  pub walk_false : (c : Bool) → c ≡ false → Walk t b from kept tokens c → marking t b ≡ none
-  walk_false true e w = never true refl e
-  walk_false false e w = w
-
-  module _ (r : MarkingAnswer) where
-    pub read_none : said r ≡ refused 5 0 → marking t b ≡ none → MarkingRead t b from kept tokens (marking t b) r
-    read_none e n = rw n e
-
-    module _ (w : Walked t b from kept tokens) where
-      pub read-bad : said r ≡ refused 5 0 → marking_fine t w.m ≡ false → MarkingRead t b from kept tokens (marking t b) r
-      read-bad e f = rw (w.read, f) e
-
-      pub read-good : marking_fine t w.m ≡ true → said r ≡ good (eqb (at b 3) 1) → MarkingRead t b from kept tokens (marking t b) r
-      read-good f e = rw (w.read, f) (e ∙ ap good (sym w.state), w.nodes-read, w.edges-read)

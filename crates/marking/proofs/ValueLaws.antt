@@ -4,7 +4,7 @@ use Prim.Native.Nat.{ℕ, suc, ◌+◌, ◌-◌, ◌*◌, ◌/◌, ◌%◌, ◌�
 use native.Mathlib.Omega.{arith}
 use mathlib.Core.Bool.{Bool, true, false, cond}
 use mathlib.Core.List.{List, [], ◌∷◌, ◌++◌, append-nil}
-use mathlib.Core.Option.{Option, none, some}
+use mathlib.Core.Option.{Option as Maybe, none, some}
 use lib.Dec.{eqb}
 use lib.ListN.{length, drop, set, length-drop}
 use lib.Seq.{get_or-set_same, get_or-set_other, get_or-drop}
@@ -19,32 +19,32 @@ use Rattle.paper.proofs.Members.{In, here, later, in_keep-below}
 use Rattle.paper.proofs.Lists.{below_more, below_split, keep_append}
 use Rattle.paper.proofs.Given.{not_listed}
 use Rattle.paper.proofs.Bytes.{Bytes, same_read, went_on, values-are, length-listed}
-use Rattle.marking.proofs.Laws.{reads_as, field-length, stock_noted}
+use Rattle.marking.proofs.Laws.{field-length, stock_noted}
 use Rattle.marking.specs.Reading.{Reads}
-use Rattle.marking.specs.Values.{is_listed, listed_at, listed_nodes, ValuesNoted, ValuesRead, said_of}
-use Rattle.marking.specs.declared.reading.Next.{Next}
-use Rattle.marking.specs.declared.reading.Next.TheVariants.{At}
-use Rattle.marking.specs.declared.values.ValuesAnswer.{ValuesAnswer}
+use Rattle.marking.specs.Values.{is_listed, listed_at, listed_nodes, ValuesNoted, ValuesRead}
+use Rattle.std.specs.Prelude.{Some, Result}
+use Rattle.wire.specs.declared.Refusal.{Refusal}
+use Rattle.wire.specs.Refusals.{said}
 
 -- ---- lists one after another
 module _ {A B : Type 0} (r : A → Reader B) where
   each_append : (xs ys : List A) (b : List ℕ) → each_read r (xs ++ ys) b ≡ go_on (each_read r xs b) (λ us. each_read r ys >>= (λ vs. done (us ++ vs)))
   each_append [] ys b = by (each_read r ys b)
     where
-      by : (o : Option (List B × List ℕ)) → o ≡ go_on o (λ vs. done vs)
+      by : (o : Maybe (List B × List ℕ)) → o ≡ go_on o (λ vs. done vs)
       by none = refl
       by (some x) = refl
   each_append (x ∷ xs) ys b = by (r x b) (λ c. each_append xs ys c)
     where
-      then : (u : B) (o : Option (List B × List ℕ)) → go_on (go_on o (λ us. each_read r ys >>= (λ vs. done (us ++ vs)))) (λ us. done (u ∷ us)) ≡ go_on (go_on o (λ us. done (u ∷ us))) (λ us. each_read r ys >>= (λ vs. done (us ++ vs)))
+      then : (u : B) (o : Maybe (List B × List ℕ)) → go_on (go_on o (λ us. each_read r ys >>= (λ vs. done (us ++ vs)))) (λ us. done (u ∷ us)) ≡ go_on (go_on o (λ us. done (u ∷ us))) (λ us. each_read r ys >>= (λ vs. done (us ++ vs)))
       then u none = refl
       then u (some o) = last (each_read r ys o.1)
         where
-          last : (q : Option (List B × List ℕ)) → go_on (go_on q (λ vs. done (o.0 ++ vs))) (λ us. done (u ∷ us)) ≡ go_on q (λ vs. done (u ∷ o.0 ++ vs))
+          last : (q : Maybe (List B × List ℕ)) → go_on (go_on q (λ vs. done (o.0 ++ vs))) (λ us. done (u ∷ us)) ≡ go_on q (λ vs. done (u ∷ o.0 ++ vs))
           last none = refl
           last (some y) = refl
 
-      by : (o : Option (B × List ℕ)) → ((c : List ℕ) → each_read r (xs ++ ys) c ≡ go_on (each_read r xs c) (λ us. each_read r ys >>= (λ vs. done (us ++ vs))))
+      by : (o : Maybe (B × List ℕ)) → ((c : List ℕ) → each_read r (xs ++ ys) c ≡ go_on (each_read r xs c) (λ us. each_read r ys >>= (λ vs. done (us ++ vs))))
           → go_on o (λ u. each_read r (xs ++ ys) >>= (λ us. done (u ∷ us))) ≡ go_on (go_on o (λ u. each_read r xs >>= (λ us. done (u ∷ us)))) (λ us. each_read r ys >>= (λ vs. done (us ++ vs)))
       by none h = refl
       by (some z) h = rw (h z.1) (then z.0 (each_read r xs z.1))
@@ -78,14 +78,6 @@ noted_values b vs p q lp lq few h =
     let n : (q - p) / 4 % 256 ≡ length vs = omega arith in
     let w : q - 4 * ((q - p) / 4) ≡ p + 1 = omega arith in
     rw (n, w) (stock_noted b p q vs h)
-
--- the list of one node
-module _ (t : List ℕ) (k o i : ℕ) (b rest : List ℕ) where
-  pub list_reads : (r : Next) → is_listed t k o i ≡ true → Reads r (values_read limits.most_upper rest) b → Reads r (each_read (λ n. values_read limits.most_upper) (listed_at t k o i) rest) b
-  list_reads r e h = rw e (reads_as (λ v. v ∷ []) r (values_read limits.most_upper rest) b h)
-
-  pub no_list : is_listed t k o i ≡ false → each_read (λ n. values_read limits.most_upper) (listed_at t k o i) rest ≡ some ([], rest)
-  no_list e = rw e
 
 module _ (t : List ℕ) (k o : ℕ) (b : List ℕ) where
   abbrev so_far : ℕ → List ℕ
@@ -137,7 +129,7 @@ module _ (t : List ℕ) (k o : ℕ) (b : List ℕ) where
           rw (← s.0, append-nil, append-nil, not_listed i (so_far i) vss (not_yet i), n, w) (record { many = refl; stand = refl; inside = omega arith })
 
   -- a list takes a byte and at most 16 values
-  pub list-spans : (i p q : ℕ) → p ≤ length b → Reads (At q) (each_read (λ n. values_read limits.most_upper) (listed_at t k o i) (drop p b)) b → Bytes b
+  pub list-spans : (i p q : ℕ) → p ≤ length b → Reads (Some q) (each_read (λ n. values_read limits.most_upper) (listed_at t k o i) (drop p b)) b → Bytes b
       → (p ≤ q) × (q ≤ p + 65)
   list-spans i p q l h u = by (is_listed t k o i) h.1
     where
@@ -152,7 +144,7 @@ module _ (t : List ℕ) (k o : ℕ) (b : List ℕ) where
       by false r = let e = field-length b p q [] (same_read r).1 l h.2 in (omega arith, omega arith)
 
   pub lists-step : (place more : List ℕ) (p q i : ℕ) → Bytes b → p ≤ length b → i < length place → i < length more → ListsRead place more p i
-      → Reads (At q) (each_read (λ n. values_read limits.most_upper) (listed_at t k o i) (drop p b)) b
+      → Reads (Some q) (each_read (λ n. values_read limits.most_upper) (listed_at t k o i) (drop p b)) b
       → ListsRead (set place i (q - 4 * ((q - p) / 4))) (set more i ((q - p) / 4 % 256)) q (i + 1)
   lists-step place more p q i u lp la lm s h =
       let many = each-many (λ n. values_read limits.most_upper) (so_far i) b s.vss (drop p b) s.read in
@@ -172,11 +164,11 @@ module _ (t : List ℕ) (k o : ℕ) (b : List ℕ) where
           rw (get_or-set_other place i j (q - 4 * ((q - p) / 4)) 0 d, get_or-set_other more i j ((q - p) / 4 % 256) 0 d, lists-still i j s.vss h.0 (drop p b) (drop q b) n e h.1) (s.noted j (omega arith))
 
   -- ---- what the walk ends in
-  module _ (place more : List ℕ) (r : ValuesAnswer) where
-    refused_if : said_of r ≡ refused 15 0 → value_lists (listed_nodes t k o) b ≡ none → ValuesRead t k o b place more (value_lists (listed_nodes t k o) b) r
+  module _ (place more : List ℕ) (r : Result (Unit {0}) Refusal) where
+    refused_if : said r ≡ refused 15 0 → value_lists (listed_nodes t k o) b ≡ none → ValuesRead t k o b place more (value_lists (listed_nodes t k o) b) r
     refused_if e n = rw n e
 
-    pub lists_cut : said_of r ≡ refused 15 0 → (p i : ℕ) → i < nodes t → ListsRead place more p i → each_read (λ n. values_read limits.most_upper) (listed_at t k o i) (drop p b) ≡ none
+    pub lists_cut : said r ≡ refused 15 0 → (p i : ℕ) → i < nodes t → ListsRead place more p i → each_read (λ n. values_read limits.most_upper) (listed_at t k o i) (drop p b) ≡ none
         → ValuesRead t k o b place more (value_lists (listed_nodes t k o) b) r
     unfolding listed_nodes value_lists
     lists_cut e p i l s h =
@@ -189,10 +181,10 @@ module _ (t : List ℕ) (k o : ℕ) (b : List ℕ) where
         refused_if e (rw none_read)
 
     module _ (p : ℕ) (s : ListsRead place more p (nodes t)) where
-      pub lists-left : said_of r ≡ refused 15 0 → p ≤ length b → (p ≡ length b → ⊥) → ValuesRead t k o b place more (value_lists (listed_nodes t k o) b) r
+      pub lists-left : said r ≡ refused 15 0 → p ≤ length b → (p ≡ length b → ⊥) → ValuesRead t k o b place more (value_lists (listed_nodes t k o) b) r
       unfolding listed_nodes value_lists
       lists-left e l n = refused_if e (rw (s.read, ne_eqb (length (drop p b)) 0 (λ z. n (omega (arith, length-drop p b)))))
 
-      pub lists-done : said_of r ≡ good tt → p ≡ length b → ValuesRead t k o b place more (value_lists (listed_nodes t k o) b) r
+      pub lists-done : said r ≡ good tt → p ≡ length b → ValuesRead t k o b place more (value_lists (listed_nodes t k o) b) r
       unfolding listed_nodes value_lists
       lists-done e l = rw (s.read, eq-eqb (length (drop p b)) 0 (omega (arith, length-drop p b))) (e, s.noted)

@@ -1,27 +1,19 @@
--- What the reader of a marking answers, and what it takes up. Assumes nothing.
-use Rattle.std.specs.Prelude.{ℕ, ◌≤◌, ◌<◌, ◌≡◌, Bool, true, false, cond, List, [], ◌∷◌, eqb, length, drop}
-use Rattle.std.proofs.Math.Option.{Option, none, some}
+-- What the reader of a marking reads, and what it takes up. Assumes nothing.
+use Rattle.std.specs.Prelude.{ℕ, ◌≤◌, ◌<◌, ◌≡◌, Bool, true, false, cond, List, [], ◌∷◌, eqb, length, drop, Option, Some, None, Result}
+use Rattle.std.proofs.Math.Option.{Option as Maybe, none, some}
 use Rattle.paper.specs.Lists.{at, all, one_if}
 use Rattle.paper.specs.Bytes.{framed}
-use Rattle.paper.specs.Answers.{Answer, refused, good}
+use Rattle.paper.specs.Answers.{refused, good}
 use Rattle.paper.specs.Table.{nodes, edges, kind, upper, is_object_node, is_action}
 use Rattle.paper.specs.Marking.{Marking, Field, tokensOf, counted, node_fields, cleared, marking_fine, marking}
 use Rattle.marking.specs.Values.{ValuesNoted}
-use Rattle.marking.specs.declared.reading.MarkingAnswer.{MarkingAnswer}
-use Rattle.marking.specs.declared.reading.MarkingAnswer.TheVariants.{Live, Ended, Refused}
-use Rattle.marking.specs.declared.reading.Next.{Next}
-use Rattle.marking.specs.declared.reading.Next.TheVariants.{At, Bad}
+use Rattle.wire.specs.declared.Refusal.{Refusal}
+use Rattle.wire.specs.Refusals.{said}
 
--- the number and the place of each answer, or whether the marking is ended
-abbrev pub said : MarkingAnswer → Answer Bool
-said Live = good false
-said Ended = good true
-said (Refused n p) = refused n p
-
--- what a reader read, and where the bytes after it start in b
-abbrev pub Reads : {A : Type 0} → Next → Option (A × List ℕ) → List ℕ → Type 0
-Reads {A} (At q) o b = (x : A) × (o ≡ some (x, drop q b)) × (q ≤ length b)
-Reads Bad o b = o ≡ none
+-- what a reader read, and where the bytes after it start in b, if it is there
+abbrev pub Reads : {A : Type 0} → Option ℕ → Maybe (A × List ℕ) → List ℕ → Type 0
+Reads {A} (Some q) o b = (x : A) × (o ≡ some (x, drop q b)) × (q ≤ length b)
+Reads None o b = o ≡ none
 
 -- the field of an edge, as a node's fields are given by node_fields
 abbrev pub edge_fields : List ℕ → ℕ → List Field
@@ -47,9 +39,9 @@ pub record EdgesRead (t : List ℕ) (m : Marking) (tokens : List ℕ) (n : ℕ) 
   pub edge : (j : ℕ) → j < n → EdgeRead t m j (at tokens j)
 
 -- fields read into a marking of which something is known
-abbrev pub ReadsInto : (Marking → Type 0) → Next → Option (Marking × List ℕ) → List ℕ → Type 0
-ReadsInto N (At q) o b = (m : Marking) × (o ≡ some (m, drop q b)) × (q ≤ length b) × N m
-ReadsInto N Bad o b = o ≡ none
+abbrev pub ReadsInto : (Marking → Type 0) → Option ℕ → Maybe (Marking × List ℕ) → List ℕ → Type 0
+ReadsInto N (Some q) o b = (m : Marking) × (o ≡ some (m, drop q b)) × (q ≤ length b) × N m
+ReadsInto N None o b = o ≡ none
 
 -- a node or an edge is clear in an ended marking
 abbrev pub node_clear : List ℕ → Marking → ℕ → Bool
@@ -78,7 +70,7 @@ Walk t b from kept tokens true = Walked t b from kept tokens
 Walk t b from kept tokens false = marking t b ≡ none
 
 -- row 5, and what is taken up of a marking that was read
-abbrev pub MarkingRead : List ℕ → List ℕ → List ℕ → List ℕ → List ℕ → Option Marking → MarkingAnswer → Type 0
+abbrev pub MarkingRead : List ℕ → List ℕ → List ℕ → List ℕ → List ℕ → Maybe Marking → Result Bool Refusal → Type 0
 MarkingRead t b from kept tokens none r = said r ≡ refused 5 0
 MarkingRead t b from kept tokens (some m) r =
     (said r ≡ good m.ended) × NodesRead t m b from kept (nodes t) × EdgesRead t m tokens (edges t)

@@ -1,18 +1,13 @@
 -- What the reader of value lists answers, and what it notes. Assumes nothing.
-use Rattle.std.specs.Prelude.{ℕ, ◌+◌, ◌*◌, ◌≤◌, ◌<◌, ◌≡◌, Bool, ◌&&◌, cond, List, [], ◌∷◌, eqb, length, take, drop}
-use Rattle.std.proofs.Math.Option.{Option, none, some}
+use Rattle.std.specs.Prelude.{ℕ, ◌+◌, ◌*◌, ◌≤◌, ◌<◌, ◌≡◌, Bool, ◌&&◌, cond, List, [], ◌∷◌, eqb, length, take, drop, Result}
+use Rattle.std.proofs.Math.Option.{Option as Maybe, none, some}
 use Rattle.paper.specs.Lists.{at, below, keep, gather}
-use Rattle.paper.specs.Answers.{Answer, refused, good}
+use Rattle.paper.specs.Answers.{refused, good}
 use Rattle.paper.specs.Bytes.{four}
 use Rattle.paper.specs.Table.{nodes, kind, owner}
 use Rattle.paper.specs.Operations.{list_for}
-use Rattle.marking.specs.declared.values.ValuesAnswer.{ValuesAnswer}
-use Rattle.marking.specs.declared.values.ValuesAnswer.TheVariants.{Good, Refused}
-
--- the number and the place of each answer
-abbrev pub said_of : ValuesAnswer → Answer (Unit {0})
-said_of Good = good tt
-said_of (Refused n p) = refused n p
+use Rattle.wire.specs.declared.Refusal.{Refusal}
+use Rattle.wire.specs.Refusals.{said}
 
 -- nodes of kind k that belong to o have a list each: incoming parameters (6, which belong to none), or an action's output pins (4)
 abbrev pub is_listed : List ℕ → ℕ → ℕ → ℕ → Bool
@@ -32,7 +27,7 @@ pub record ValuesNoted (b vs : List ℕ) (p n : ℕ) : Type 0 where
   pub inside : p + 4 * n ≤ length b
 
 -- row 15, and where each node's values stand
-abbrev pub ValuesRead : List ℕ → ℕ → ℕ → List ℕ → List ℕ → List ℕ → Option (List (List ℕ)) → ValuesAnswer → Type 0
-ValuesRead t k o b place more none r = said_of r ≡ refused 15 0
+abbrev pub ValuesRead : List ℕ → ℕ → ℕ → List ℕ → List ℕ → List ℕ → Maybe (List (List ℕ)) → Result (Unit {0}) Refusal → Type 0
+ValuesRead t k o b place more none r = said r ≡ refused 15 0
 ValuesRead t k o b place more (some vss) r =
-    (said_of r ≡ good tt) × ((i : ℕ) → i < nodes t → ValuesNoted b (list_for i (listed_nodes t k o) vss) (at place i) (at more i))
+    (said r ≡ good tt) × ((i : ℕ) → i < nodes t → ValuesNoted b (list_for i (listed_nodes t k o) vss) (at place i) (at more i))

@@ -5,5 +5,5 @@
 mod reading;
 mod values;
 
-pub use reading::{Fields, MarkingAnswer, has_count, read};
-pub use values::{ValuesAnswer, is_listed, read_values};
+pub use reading::{Fields, has_count, read};
+pub use values::{is_listed, read_values};

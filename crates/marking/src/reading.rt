@@ -11,15 +11,7 @@ ghost use Rattle.marking.specs.Reading.{Reads, edge_fields, NodesRead, EdgesRead
 ghost use Rattle.std.proofs.Math.Option.{none};
 
 use table::Table;
-use wire::wide;
-
-// The state of a good marking, or the refusal's number and its place.
-#[derive(Clone, Copy)]
-pub enum MarkingAnswer {
-    Live,
-    Ended,
-    Refused(u8, u8),
-}
+use wire::{Refusal, wide};
 
 // What was read of a marking: of each node's field the place behind its first byte, and that byte, which is a stock's count or a running byte; of each edge
 // with a count the count.
@@ -30,43 +22,36 @@ pub struct Fields {
     pub tokens: [u8; Table::MOST_EDGES],
 }
 
-// Where the bytes after a field start, or that the field isn't there.
-#[derive(Clone, Copy)]
-pub enum Next {
-    At(usize),
-    Bad,
-}
-
 // A count, at most `most`, and that many values.
-pub fn stock_end(b: &[u8], from: usize, most: usize) -> Next
+pub fn stock_end(b: &[u8], from: usize, most: usize) -> Option<usize>
     requires { (from ≤ length b.now) × (most < 256) }
     ensures { Reads result (values_read most (drop from b.now)) b.now }
 {
     if b.len() <= from {
-        return Next::Bad;
+        return None;
     }
     let n = wide(b[from]);
     if most < n {
-        return Next::Bad;
+        return None;
     }
     if b.len() - from - 1 < 4 * n {
-        return Next::Bad;
+        return None;
     }
-    Next::At(from + 1 + 4 * n)
+    Some(from + 1 + 4 * n)
 }
 
 // A byte that is at most `most`.
-fn byte_end(b: &[u8], from: usize, most: usize) -> Next
+fn byte_end(b: &[u8], from: usize, most: usize) -> Option<usize>
     requires { from ≤ length b.now }
     ensures { Reads result (up_to most (drop from b.now)) b.now }
 {
     if b.len() <= from {
-        return Next::Bad;
+        return None;
     }
     if most < wide(b[from]) {
-        return Next::Bad;
+        return None;
     }
-    Next::At(from + 1)
+    Some(from + 1)
 }
 
 // The first byte of a field that goes from a place to another, 0 if it has none.
@@ -81,7 +66,7 @@ fn first_of(b: &[u8], place: usize, end: usize) -> u8
 }
 
 // The field of node i, if it has one.
-fn node_end(t: &[u8], table: Table, b: &[u8], from: usize, i: usize) -> Next
+fn node_end(t: &[u8], table: Table, b: &[u8], from: usize, i: usize) -> Option<usize>
     requires { Spans t.now table × (i < table.nodes) × (from ≤ length b.now) }
     ensures { (m : Marking) → Reads result (fields_read t.now (node_fields t.now i) m (drop from b.now)) b.now }
 {
@@ -92,28 +77,22 @@ fn node_end(t: &[u8], table: Table, b: &[u8], from: usize, i: usize) -> Next
     if k == Table::ACTION {
         return byte_end(b, from, 1);
     }
-    Next::At(from)
+    Some(from)
 }
 
 // Every node's field. Each takes at most 65 bytes, so that two bytes say every place.
-fn nodes_end(t: &[u8], table: Table, b: &[u8], from: &mut [u16], kept: &mut [u8]) -> Next
+fn nodes_end(t: &[u8], table: Table, b: &[u8], from: &mut [u16], kept: &mut [u8]) -> Option<usize>
     requires { (table_read t.now ≡ good table) × (4 ≤ length b.now) × (table.nodes ≤ length from.old) × (table.nodes ≤ length kept.old) }
     ensures { (e : Bool) → ReadsInto (λ m. NodesRead t.now m b.now from.new kept.new (nodes t.now)) result (fields_read t.now (gather (node_fields t.now) (below (nodes t.now))) (blank e) (drop 4 b.now)) b.now }
 {
-    let n = table.nodes;
     let mut place: usize = 4;
-    let mut i: usize = 0;
-    while i < n {
-        let q = match node_end(t, table, b, place, i) {
-            Next::At(q) => q,
-            Next::Bad => return Next::Bad,
-        };
+    for i in 0..table.nodes {
+        let q = node_end(t, table, b, place, i)?;
         from[i] = (place + 1) as u16;
         kept[i] = first_of(b, place, q);
         place = q;
-        i += 1;
     }
-    Next::At(place)
+    Some(place)
 }
 
 // Whether edge j has a count: a control edge that leaves an initial node or an action. In a table that was read no other edges leave these.
@@ -126,37 +105,31 @@ pub fn has_count(t: &[u8], table: Table, j: usize) -> bool
 }
 
 // The count of edge j, if it has one.
-fn edge_end(t: &[u8], table: Table, b: &[u8], from: usize, j: usize) -> Next
+fn edge_end(t: &[u8], table: Table, b: &[u8], from: usize, j: usize) -> Option<usize>
     requires { (table_read t.now ≡ good table) × (j < table.edges) × (from ≤ length b.now) }
     ensures { (m : Marking) → Reads result (fields_read t.now (edge_fields t.now j) m (drop from b.now)) b.now }
 {
     if !has_count(t, table, j) {
-        return Next::At(from);
+        return Some(from);
     }
     if b.len() <= from {
-        return Next::Bad;
+        return None;
     }
-    Next::At(from + 1)
+    Some(from + 1)
 }
 
 // Every edge's count.
-fn edges_end(t: &[u8], table: Table, b: &[u8], start: usize, tokens: &mut [u8]) -> Next
+fn edges_end(t: &[u8], table: Table, b: &[u8], start: usize, tokens: &mut [u8]) -> Option<usize>
     requires { (table_read t.now ≡ good table) × (start ≤ length b.now) × (table.edges ≤ length tokens.old) }
     ensures { (a : Marking) → ReadsInto (λ m. EdgesRead t.now m tokens.new (edges t.now)) result (fields_read t.now (gather (edge_fields t.now) (below (edges t.now))) a (drop start b.now)) b.now }
 {
-    let n = table.edges;
     let mut place: usize = start;
-    let mut j: usize = 0;
-    while j < n {
-        let q = match edge_end(t, table, b, place, j) {
-            Next::At(q) => q,
-            Next::Bad => return Next::Bad,
-        };
+    for j in 0..table.edges {
+        let q = edge_end(t, table, b, place, j)?;
         tokens[j] = first_of(b, place, q);
         place = q;
-        j += 1;
     }
-    Next::At(place)
+    Some(place)
 }
 
 // Whether pin p holds what its action's running byte asks; any other node does.
@@ -179,13 +152,10 @@ fn pins_fine(t: &[u8], table: Table, kept: &[u8]) -> bool
     requires { (table_read t.now ≡ good table) × (table.nodes ≤ length kept.now) }
     ensures { (m : Marking) (b from : List ℕ) → NodesRead t.now m b from kept.now (nodes t.now) → result ≡ all (pin_fine t.now m) (below (nodes t.now)) }
 {
-    let n = table.nodes;
-    let mut p: usize = 0;
-    while p < n {
+    for p in 0..table.nodes {
         if !pin_fine(t, table, kept, p) {
             return false;
         }
-        p += 1;
     }
     true
 }
@@ -206,13 +176,10 @@ fn nodes_clear(t: &[u8], table: Table, kept: &[u8]) -> bool
     requires { (table_read t.now ≡ good table) × (table.nodes ≤ length kept.now) }
     ensures { (m : Marking) (b from : List ℕ) → NodesRead t.now m b from kept.now (nodes t.now) → result ≡ all (node_clear t.now m) (below (nodes t.now)) }
 {
-    let n = table.nodes;
-    let mut i: usize = 0;
-    while i < n {
+    for i in 0..table.nodes {
         if !node_clear(t, table, kept, i) {
             return false;
         }
-        i += 1;
     }
     true
 }
@@ -222,12 +189,10 @@ fn edges_clear(tokens: &[u8], n: usize) -> bool
     requires { n ≤ length tokens.now }
     ensures { (t : List ℕ) (m : Marking) → EdgesRead t m tokens.now n → result ≡ all (edge_clear t m) (below n) }
 {
-    let mut j: usize = 0;
-    while j < n {
+    for j in 0..n {
         if tokens[j] != 0 {
             return false;
         }
-        j += 1;
     }
     true
 }
@@ -277,18 +242,16 @@ fn walk(
     requires { (table_read t.now ≡ good table) × (4 ≤ length b.now) × (table.nodes ≤ length from.old) × (table.nodes ≤ length kept.old) × (table.edges ≤ length tokens.old) }
     ensures { Head b.now → Walk t.now b.now from.new kept.new tokens.new result }
 {
-    let after = match nodes_end(t, table, b, from, kept) {
-        Next::At(q) => q,
-        Next::Bad => return false,
+    let Some(after) = nodes_end(t, table, b, from, kept) else {
+        return false;
     };
-    let end = match edges_end(t, table, b, after, tokens) {
-        Next::At(q) => q,
-        Next::Bad => return false,
+    let Some(end) = edges_end(t, table, b, after, tokens) else {
+        return false;
     };
     end == b.len()
 }
 
-// What is said of a marking whose fields were walked through, or weren't all there.
+// What is said of a marking whose fields were walked through, or weren't all there: whether it is ended.
 fn judged(
     t: &[u8],
     table: Table,
@@ -296,24 +259,21 @@ fn judged(
     walked: bool,
     kept: &[u8],
     tokens: &[u8],
-) -> MarkingAnswer
+) -> Result<bool, Refusal>
     requires { (table_read t.now ≡ good table) × (4 ≤ length b.now) × (table.nodes ≤ length kept.now) × (table.edges ≤ length tokens.now) }
     ensures { (from : List ℕ) → Walk t.now b.now from kept.now tokens.now walked → MarkingRead t.now b.now from kept.now tokens.now (marking t.now b.now) result }
 {
     if !walked {
-        return MarkingAnswer::Refused(5, 0);
+        return Err(Refusal::Marking);
     }
     let ended = b[3] == 1;
     if !settled(t, table, ended, kept, tokens) {
-        return MarkingAnswer::Refused(5, 0);
+        return Err(Refusal::Marking);
     }
-    if ended {
-        return MarkingAnswer::Ended;
-    }
-    MarkingAnswer::Live
+    Ok(ended)
 }
 
-// The whole marking.
+// The whole marking, and whether it is ended.
 pub fn read(
     t: &[u8],
     table: Table,
@@ -321,12 +281,12 @@ pub fn read(
     from: &mut [u16],
     kept: &mut [u8],
     tokens: &mut [u8],
-) -> MarkingAnswer
+) -> Result<bool, Refusal>
     requires { (table_read t.now ≡ good table) × (table.nodes ≤ length from.old) × (table.nodes ≤ length kept.old) × (table.edges ≤ length tokens.old) }
     ensures { MarkingRead t.now b.now from.new kept.new tokens.new (marking t.now b.now) result }
 {
     if !head_fine(b) {
-        return MarkingAnswer::Refused(5, 0);
+        return Err(Refusal::Marking);
     }
     let walked = walk(t, table, b, from, kept, tokens);
     judged(t, table, b, walked, kept, tokens)

@@ -7,15 +7,9 @@ ghost use Rattle.table.specs.Reading.{Spans};
 ghost use Rattle.marking.specs.Reading.{Reads};
 ghost use Rattle.marking.specs.Values.{is_listed, listed_at, listed_nodes, ValuesRead};
 
-use super::reading::{Next, stock_end};
+use super::reading::stock_end;
 use table::Table;
-
-// That the lists are there, or the refusal's number and its place.
-#[derive(Clone, Copy)]
-pub enum ValuesAnswer {
-    Good,
-    Refused(u8, u8),
-}
+use wire::Refusal;
 
 // Whether node i has a list: it is of the kind and has the owner asked for.
 pub fn is_listed(t: &[u8], table: Table, kind: usize, owner: usize, i: usize) -> bool
@@ -37,14 +31,14 @@ fn list_end(
     b: &[u8],
     from: usize,
     i: usize,
-) -> Next
+) -> Option<usize>
     requires { Spans t.now table × (i < table.nodes) × (from ≤ length b.now) }
     ensures { Reads result (each_read (λ p. values_read limits.most_upper) (listed_at t.now kind owner i) (drop from b.now)) b.now }
 {
     if is_listed(t, table, kind, owner, i) {
         return stock_end(b, from, Table::MOST_UPPER);
     }
-    Next::At(from)
+    Some(from)
 }
 
 // The lists of the nodes of one kind and owner, to the last byte: where each node's values start, and how many there are. Each list takes at most 65
@@ -57,27 +51,21 @@ pub fn read_values(
     b: &[u8],
     place: &mut [u16],
     more: &mut [u8],
-) -> ValuesAnswer
+) -> Result<(), Refusal>
     requires { Spans t.now table × (table.nodes ≤ length place.old) × (table.nodes ≤ length more.old) }
     ensures { ValuesRead t.now kind owner b.now place.new more.new (value_lists (listed_nodes t.now kind owner) b.now) result }
 {
-    let n = table.nodes;
     let mut from: usize = 0;
-    let mut i: usize = 0;
-    while i < n {
-        let q = match list_end(t, table, kind, owner, b, from, i) {
-            Next::At(q) => q,
-            Next::Bad => return ValuesAnswer::Refused(15, 0),
-        };
+    for i in 0..table.nodes {
+        let q = list_end(t, table, kind, owner, b, from, i).ok_or(Refusal::Values)?;
         // a list is a byte and four bytes a value; a node without one takes none
         let values = (q - from) / 4;
         place[i] = (q - 4 * values) as u16;
         more[i] = (values % 256) as u8;
         from = q;
-        i += 1;
     }
     if from != b.len() {
-        return ValuesAnswer::Refused(15, 0);
+        return Err(Refusal::Values);
     }
-    ValuesAnswer::Good
+    Ok(())
 }

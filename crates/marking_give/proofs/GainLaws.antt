@@ -29,9 +29,6 @@ module _ (t : List ℕ) (fires : ℕ → Bool) (held : ℕ → ℕ) (tokens₀ :
     pub below_j : (k : ℕ) → k < j → (counted t k ≡ true → at tokens k ≡ gained t fires held k) × (leb (gained t fires held k) 255 ≡ true)
     pub rest : (k : ℕ) → j ≤ k → at tokens k ≡ at tokens₀ k
 
-  pub gained_begin : GainedTo tokens₀ 0
-  gained_begin = record { below_j = λ k l. absurd (omega arith); rest = λ k l. refl }
-
   module _ (tokens : List ℕ) (j : ℕ) (l : j < edges t) (g : GainedTo tokens j) {c : Bool} (q : c ≡ has_tokens t j && fires (source t j)) where
     pub gained-full : c ≡ true → at tokens j ≡ 255 → leb (gained t fires held j) 255 ≡ false
     gained-full p f =
@@ -72,22 +69,8 @@ module _ (t : List ℕ) (fires : ℕ → Bool) (held : ℕ → ℕ) (tokens₀ :
   pub gained-not : (tokens : List ℕ) (j : ℕ) → j < edges t → leb (gained t fires held j) 255 ≡ false → Gained t (gained t fires held) tokens false
   gained-not tokens j l e = (sym (all_fails (λ e. leb (gained t fires held e) 255) (edges t) j l e), λ r. never false r refl)
 
--- ---- which nodes fire
-pub kind_fires : (t : List ℕ) (i : ℕ) {f : Firing} (k : ℕ) {x : ℕ} → f ≡ Kind k → x ≡ kind t i → eqb x k ≡ fires_as t f i
-kind_fires t i k e q = rw (e, q)
-
-pub node_fires : (t : List ℕ) (i : ℕ) {f : Firing} (a : ℕ) → f ≡ Node a → eqb i a ≡ fires_as t f i
-node_fires t i a e = rw e
-
--- an edge whose source doesn't fire gains nothing, and of others those with a count do
+-- of the edges whose source fires those with a count gain
 module _ (t : List ℕ) (j : ℕ) (f : Firing) where
-  pub gains_none : {s : ℕ} {c : Bool} → s ≡ source t j → c ≡ fires_as t f s → c ≡ false → false ≡ has_tokens t j && fires_as t f (source t j)
-  gains_none e q h = sym (rw (← e, ← q, h) (by (has_tokens t j)))
-    where
-      by : (b : Bool) → b && false ≡ false
-      by true = refl
-      by false = refl
-
   pub gains_count : j < edges t → {s : ℕ} {c d : Bool} → s ≡ source t j → c ≡ fires_as t f s → c ≡ true → d ≡ counted t j
       → d ≡ has_tokens t j && fires_as t f (source t j)
   gains_count l e q h k = k ∙ sym (counted_has t j l) ∙ sym (rw (← e, ← q, h) (by (has_tokens t j)))

@@ -26,15 +26,17 @@ use Rattle.marking.specs.Values.{is_listed, listed_nodes, ValuesNoted, ValuesRea
 use Rattle.marking_held.proofs.HeldLaws.{stock_stays}
 use Rattle.marking_held.specs.MarkingHeld.{Held, StockHeld, MarkingHeld}
 use Rattle.marking_give.specs.Giving.{gained, Amounts, CountsAre, Gained, give_of, Givable, given_to}
-use Rattle.marking.specs.declared.values.ValuesAnswer.TheVariants.{Good, Refused}
+use Rattle.std.specs.Prelude.{Ok, Err}
+use Rattle.wire.specs.declared.Refusal.{Refusal}
+use Rattle.wire.specs.Refusals.{number, place as place_of}
 
 -- the reader of lists taken apart
-pub lists-refused : (t : List ℕ) (k o : ℕ) (b place more : List ℕ) (l : Option (List (List ℕ))) (n p : ℕ) → ValuesRead t k o b place more l (Refused n p)
-    → (l ≡ none) × (n ≡ 15) × (p ≡ 0)
-lists-refused t k o b place more none n p h = (refl, cc h, cc h)
-lists-refused t k o b place more (some vss) n p h = no_good h.0
+pub lists-refused : (t : List ℕ) (k o : ℕ) (b place more : List ℕ) (l : Option (List (List ℕ))) (w : Refusal) → ValuesRead t k o b place more l (Err w)
+    → (l ≡ none) × (number w ≡ 15) × (place_of w ≡ 0)
+lists-refused t k o b place more none w h = (refl, cc h, cc h)
+lists-refused t k o b place more (some vss) w h = no_good h.0
 
-pub lists-good : (t : List ℕ) (k o : ℕ) (b place more : List ℕ) (l : Option (List (List ℕ))) → ValuesRead t k o b place more l Good
+pub lists-good : (t : List ℕ) (k o : ℕ) (b place more : List ℕ) (l : Option (List (List ℕ))) → ValuesRead t k o b place more l (Ok tt)
     → (vss : List (List ℕ)) × (l ≡ some vss) × ((i : ℕ) → i < nodes t → ValuesNoted b (list_for i (listed_nodes t k o) vss) (at place i) (at more i))
 lists-good t k o b place more none h = no_good (sym h)
 lists-good t k o b place more (some vss) h = (vss, refl, h.1)
@@ -56,10 +58,10 @@ module _ (t : List ℕ) (k o : ℕ) (fires : ℕ → Bool) (m : Marking) (b : Li
   give_all vss e r = rw (e, r)
 
   module _ (old : List ℕ) (x : Held) (g : Givable t k o m old x) (place more : List ℕ) where
-    pub gives_15 : (n p : ℕ) → ValuesRead t k o b place more (value_lists (listed_nodes t k o) b) (Refused n p) → give_of t k o fires m b ≡ refused n p
-    gives_15 n p h = let z = lists-refused t k o b place more (value_lists (listed_nodes t k o) b) n p h in rw (z.1, z.2) (give_15 z.0)
+    pub gives_15 : (w : Refusal) → ValuesRead t k o b place more (value_lists (listed_nodes t k o) b) (Err w) → give_of t k o fires m b ≡ refused (number w) (place_of w)
+    gives_15 w h = let z = lists-refused t k o b place more (value_lists (listed_nodes t k o) b) w h in rw (z.1, z.2) (give_15 z.0)
 
-    module _ (h : ValuesRead t k o b place more (value_lists (listed_nodes t k o) b) Good) where
+    module _ (h : ValuesRead t k o b place more (value_lists (listed_nodes t k o) b) (Ok tt)) where
       abbrev read : (vss : List (List ℕ)) × (value_lists (listed_nodes t k o) b ≡ some vss)
           × ((i : ℕ) → i < nodes t → ValuesNoted b (list_for i (listed_nodes t k o) vss) (at place i) (at more i))
       read = lists-good t k o b place more (value_lists (listed_nodes t k o) b) h

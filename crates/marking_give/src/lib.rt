@@ -33,13 +33,10 @@ pub fn stocks_fit(t: &[u8], table: Table, kept: &[u8], more: &[u8]) -> bool
     ensures { (held : ℕ → ℕ) → Amounts t.now held kept.now more.now
         → result ≡ all (λ i. leb (held i) (upper t.now i)) (below (nodes t.now)) }
 {
-    let n = table.nodes;
-    let mut i: usize = 0;
-    while i < n {
+    for i in 0..table.nodes {
         if !stock_fits(t, table, kept, more, i) {
             return false;
         }
-        i += 1;
     }
     true
 }
@@ -71,10 +68,7 @@ fn gains(t: &[u8], table: Table, firing: Firing, j: usize) -> bool
     requires { (table_read t.now ≡ good table) × (j < table.edges) }
     ensures { result ≡ has_tokens t.now j && fires_as t.now firing (source t.now j) }
 {
-    if !fires(t, table, firing, table.source(t, j)) {
-        return false;
-    }
-    has_count(t, table, j)
+    fires(t, table, firing, table.source(t, j)) && has_count(t, table, j)
 }
 
 // A further token for every edge with a count whose source fires, unless one is at 255.
@@ -83,16 +77,13 @@ pub fn gain(t: &[u8], table: Table, firing: Firing, tokens: &mut [u8]) -> bool
     ensures { (held : ℕ → ℕ) → CountsHeld t.now held tokens.old
         → Gained t.now (gained t.now (fires_as t.now firing) held) tokens.new result }
 {
-    let n = table.edges;
-    let mut j: usize = 0;
-    while j < n {
+    for j in 0..table.edges {
         if gains(t, table, firing, j) {
             if tokens[j] == 255 {
                 return false;
             }
             tokens[j] = tokens[j] + 1;
         }
-        j += 1;
     }
     true
 }

@@ -1,6 +1,6 @@
 -- Laws of a marking held in columns: what is held as it was read, what an action that is idle again leaves, and what nothing holds. Assumes nothing.
 use mathlib.Core.Path.{◌≡◌, refl, sym, ap, ◌∙◌}
-use Prim.Native.Nat.{ℕ, ◌+◌, ◌*◌, ◌≤◌, ◌<◌}
+use Prim.Native.Nat.{ℕ, ◌*◌, ◌≤◌, ◌<◌}
 use native.Mathlib.Omega.{arith}
 use mathlib.Core.Bool.{Bool, true, false, not, ◌&&◌, cond}
 use mathlib.Core.List.{List, [], ◌++◌, append-nil}
@@ -21,13 +21,13 @@ use Rattle.paper.proofs.Tables.{GoodTable, upper_fits}
 use Rattle.paper.proofs.OneMarking.{read-is-good}
 use Rattle.table.proofs.Reading.{blank as zeros}
 use Rattle.marking.specs.declared.reading.Fields.{Fields}
-use Rattle.marking.specs.declared.reading.MarkingAnswer.{MarkingAnswer}
-use Rattle.marking.specs.declared.reading.MarkingAnswer.TheVariants.{Live, Ended, Refused}
-use Rattle.marking.specs.Reading.{said, NodesRead, EdgesRead, MarkingRead}
+use Rattle.std.specs.Prelude.{Result, Ok, Err}
+use Rattle.wire.specs.declared.Refusal.{Refusal}
+use Rattle.wire.specs.Refusals.{said, number, place}
+use Rattle.marking.specs.Reading.{NodesRead, EdgesRead, MarkingRead}
 use Rattle.marking.specs.Values.{is_listed, ValuesNoted}
 use Rattle.marking_held.specs.Filling.{Filled}
 use Rattle.marking_held.specs.MarkingHeld.{Held, StockHeld, MarkingHeld, HeldInside, HeldLengths, LiveMarking, no_nodes, no_edges, held_of, fields_held, FieldsLengths}
-use Rattle.marking_held.proofs.Fillings.{filled_none, filled_set, filled_skip}
 
 -- ---- what a marking that was read holds
 stock-kept : (b vs : List ℕ) (p n q k : ℕ) → ValuesNoted b vs p n → n ≤ 255 → q ≡ 0 → k ≡ 0 → StockHeld vs b [] p n q k
@@ -54,16 +54,16 @@ module _ (t b from kept tokens : List ℕ) where
   }
 
   -- ---- the answer taken apart
-  module _ (r : MarkingAnswer) where
-    by_refused : (o : Option Marking) (n p : ℕ) → r ≡ Refused n p → MarkingRead t b from kept tokens o r → (o ≡ none) × (n ≡ 5) × (p ≡ 0)
-    by_refused none n p e h = let z = ap said (sym e) ∙ h in (refl, cc z, cc z)
-    by_refused (some m) n p e h = no_good (ap said (sym e) ∙ h.0)
+  module _ (r : Result Bool Refusal) where
+    by_refused : (o : Option Marking) (w : Refusal) → r ≡ Err w → MarkingRead t b from kept tokens o r → (o ≡ none) × (number w ≡ 5) × (place w ≡ 0)
+    by_refused none w e h = let z = ap said (sym e) ∙ h in (refl, cc z, cc z)
+    by_refused (some m) w e h = no_good (ap said (sym e) ∙ h.0)
 
-    by_ended : (o : Option Marking) → r ≡ Ended → MarkingRead t b from kept tokens o r → (m : Marking) × (o ≡ some m) × (m.ended ≡ true)
+    by_ended : (o : Option Marking) → r ≡ Ok true → MarkingRead t b from kept tokens o r → (m : Marking) × (o ≡ some m) × (m.ended ≡ true)
     by_ended none e h = no_good (sym (ap said (sym e) ∙ h))
     by_ended (some m) e h = (m, refl, sym (same_good (ap said (sym e) ∙ h.0)))
 
-    by_live : GoodTable t limits → HeldLengths (held_of from kept tokens) → (o : Option Marking) → marking t b ≡ o → r ≡ Live → MarkingRead t b from kept tokens o r
+    by_live : GoodTable t limits → HeldLengths (held_of from kept tokens) → (o : Option Marking) → marking t b ≡ o → r ≡ Ok false → MarkingRead t b from kept tokens o r
         → LiveMarking t b (held_of from kept tokens)
     by_live g n none q e h = no_good (sym (ap said (sym e) ∙ h))
     by_live g n (some m) q e h = record {
@@ -75,13 +75,13 @@ module _ (t b from kept tokens : List ℕ) where
     }
 
     module _ (h : MarkingRead t b from kept tokens (marking t b) r) where
-      pub refused_up : (n p : ℕ) → r ≡ Refused n p → (marking t b ≡ none) × (n ≡ 5) × (p ≡ 0)
-      refused_up n p e = by_refused (marking t b) n p e h
+      pub refused_up : (w : Refusal) → r ≡ Err w → (marking t b ≡ none) × (number w ≡ 5) × (place w ≡ 0)
+      refused_up w e = by_refused (marking t b) w e h
 
-      pub ended_up : r ≡ Ended → (m : Marking) × (marking t b ≡ some m) × (m.ended ≡ true)
+      pub ended_up : r ≡ Ok true → (m : Marking) × (marking t b ≡ some m) × (m.ended ≡ true)
       ended_up e = by_ended (marking t b) e h
 
-      pub live_up : GoodTable t limits → HeldLengths (held_of from kept tokens) → r ≡ Live → LiveMarking t b (held_of from kept tokens)
+      pub live_up : GoodTable t limits → HeldLengths (held_of from kept tokens) → r ≡ Ok false → LiveMarking t b (held_of from kept tokens)
       live_up g n e = by_live g n (marking t b) refl e h
 
 -- what was read of a live marking has the lengths of its arrays
@@ -95,16 +95,6 @@ live-is-good t b x l u = (read-is-good t b l.current u l.is_read).0
 -- of the nodes below i the input pins of action a are empty
 abbrev pub PinsEmptied : List ℕ → ℕ → List ℕ → List ℕ → ℕ → Type 0
 PinsEmptied t a old new i = Filled (λ k. cond (is_listed t 3 a k) 0 (at old k)) old new i
-
-pub pins_none : (t : List ℕ) (a : ℕ) (kept : List ℕ) → PinsEmptied t a kept kept 0
-pins_none t a kept = filled_none (λ k. cond (is_listed t 3 a k) 0 (at kept k)) kept
-
-module _ (t : List ℕ) (a : ℕ) {old new : List ℕ} {i : ℕ} (h : PinsEmptied t a old new i) {r : Bool} (q : r ≡ is_listed t 3 a i) where
-  pub pins_more : i < length new → r ≡ true → PinsEmptied t a old (set new i 0) (i + 1)
-  pins_more l e = filled_set h 0 l (sym (rw (sym q ∙ e)))
-
-  pub pins_skip : r ≡ false → PinsEmptied t a old new (i + 1)
-  pins_skip e = filled_skip h (sym (rw (sym q ∙ e)))
 
 emptied_stock : (vs old extra : List ℕ) (f k p n : ℕ) (c : Bool) → n ≡ 0 → StockHeld vs old extra f k p n
     → StockHeld (cond c [] vs) old extra f (cond c 0 k) p n

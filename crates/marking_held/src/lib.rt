@@ -21,12 +21,9 @@ pub fn idle(t: &[u8], table: Table, a: usize, kept: &mut [u8])
         → MarkingHeld t.now (idled t.now a m) old [] (held_of from kept.new tokens) }
 {
     kept[a] = 0;
-    let n = table.nodes;
-    let mut i: usize = 0;
-    while i < n {
+    for i in 0..table.nodes {
         if is_listed(t, table, Table::INPUT, a, i) {
             kept[i] = 0;
         }
-        i += 1;
     }
 }

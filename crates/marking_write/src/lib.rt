@@ -13,11 +13,13 @@ ghost use Rattle.paper.specs.Operations.{in_room, Reply};
 ghost use Rattle.table.specs.Reading.{Spans, table_read};
 ghost use Rattle.wire.specs.Totals.{total};
 ghost use Rattle.marking_held.specs.MarkingHeld.{MarkingHeld, HeldInside, HeldLengths, held_in};
+ghost use Rattle.wire.specs.Refusals.{word_of};
 ghost use Rattle.marking_write.specs.Writing.{NodeInside, NodesLong, nodes_held, size_as, most_node_size, node_size, edge_size, size_of, most_size};
 ghost use Rattle.marking_write.specs.Writing.{stock_bytes, field_bytes, node_bytes, edge_bytes};
 
 use marking::has_count;
 use table::Table;
+use wire::Refusal;
 
 // What is held of one node.
 #[derive(Clone, Copy)]
@@ -27,13 +29,6 @@ struct NodeHeld {
     pub place: u16,
     pub more: u8,
     pub runs: u8,
-}
-
-// A place as a number that goes up to any length.
-fn place_of(x: u16) -> usize
-    ensures { (result ≡ x) × (result < 65536) }
-{
-    x as usize
 }
 
 // What the field of a node takes, which has kind k and will hold so many values.
@@ -56,12 +51,9 @@ fn nodes_size(t: &[u8], table: Table, kept: &[u8], more: &[u8]) -> usize
     ensures { (result ≡ total (node_size t.now kept.now more.now) (nodes t.now))
         × (result ≤ limits.most_nodes * most_node_size) }
 {
-    let n = table.nodes;
     let mut taken: usize = 0;
-    let mut i: usize = 0;
-    while i < n {
+    for i in 0..table.nodes {
         taken += node_size(table.kind(t, i), wire::wide(kept[i]) + wire::wide(more[i]));
-        i += 1;
     }
     taken
 }
@@ -71,10 +63,7 @@ fn edge_size(t: &[u8], table: Table, j: usize) -> usize
     requires { (table_read t.now ≡ good table) × (j < table.edges) }
     ensures { (result ≡ edge_size t.now j) × (result ≤ 1) }
 {
-    if has_count(t, table, j) {
-        return 1;
-    }
-    0
+    has_count(t, table, j) as usize
 }
 
 // What the edges' counts take.
@@ -82,12 +71,9 @@ fn edges_size(t: &[u8], table: Table) -> usize
     requires { table_read t.now ≡ good table }
     ensures { (result ≡ total (edge_size t.now) (edges t.now)) × (result ≤ limits.most_edges) }
 {
-    let n = table.edges;
     let mut taken: usize = 0;
-    let mut j: usize = 0;
-    while j < n {
+    for j in 0..table.edges {
         taken += edge_size(t, table, j);
-        j += 1;
     }
     taken
 }
@@ -110,8 +96,8 @@ fn write_stock(old: &[u8], extra: &[u8], node: NodeHeld, out: &mut [u8], to: usi
     let more = 4 * wire::wide(node.more);
     let behind = to + 1 + kept;
     out[to] = node.kept + node.more;
-    wire::copy(old, place_of(node.from), kept, out, to + 1);
-    wire::copy(extra, place_of(node.place), more, out, behind);
+    wire::copy(old, wire::wide16(node.from), kept, out, to + 1);
+    wire::copy(extra, wire::wide16(node.place), more, out, behind);
     behind + more
 }
 
@@ -159,10 +145,8 @@ fn write_nodes(
         (nodes_held from.now kept.now place.now more.now runs.now))
         (below (nodes t.now)))) }
 {
-    let n = table.nodes;
     let mut to: usize = 4;
-    let mut i: usize = 0;
-    while i < n {
+    for i in 0..table.nodes {
         let node = NodeHeld {
             from: from[i],
             kept: kept[i],
@@ -171,7 +155,6 @@ fn write_nodes(
             runs: runs[i],
         };
         to = write_node(table.kind(t, i), old, extra, node, out, to);
-        i += 1;
     }
     to
 }
@@ -196,12 +179,9 @@ fn write_edges(t: &[u8], table: Table, tokens: &[u8], out: &mut [u8], start: usi
     ensures { out.new
         ≡ sets out.old start (gather (edge_bytes t.now tokens.now) (below (edges t.now))) }
 {
-    let n = table.edges;
     let mut to: usize = start;
-    let mut j: usize = 0;
-    while j < n {
+    for j in 0..table.edges {
         to = write_edge(t, table, tokens[j], j, out, to);
-        j += 1;
     }
 }
 
@@ -219,21 +199,21 @@ pub fn reply(
     runs: &[u8],
     tokens: &[u8],
     out: &mut [u8],
-) -> u64
+) -> Result<usize, Refusal>
     requires { (table_read t.now ≡ good table) × HeldLengths (held_in from.now kept.now place.now more.now runs.now tokens.now)
         × HeldInside t.now old.now extra.now (held_in from.now kept.now place.now more.now runs.now tokens.now) }
     ensures { (m : Marking) → MarkingHeld t.now m old.now extra.now
         (held_in from.now kept.now place.now more.now runs.now tokens.now)
         → state ≡ one_if m.ended
-        → Reply (in_room (length out.old) (good (encode t.now m))) result out.old out.new }
+        → Reply (in_room (length out.old) (good (encode t.now m))) (word_of result) out.old out.new }
 {
     let len = size(t, table, kept, more);
     if out.len() < len {
-        return wire::pack(17, 0, 0);
+        return Err(Refusal::Room);
     }
     let next = write_nodes(t, table, old, extra, from, kept, place, more, runs, out);
     write_edges(t, table, tokens, out, next);
     // last, as what it stores to could be what was handed here: the compiler would copy all that is held once more
     wire::write_head(len, state, out);
-    wire::pack(0, 0, len)
+    Ok(len)
 }

@@ -45,6 +45,7 @@ pub const MOST_ENDS: usize = 20;
 
 // The list of offers, by value, for those who judge and take ends: a row each, without what only ends are asked for, the numbers of paths, makers and foes, and
 // what paths go on from.
+// kept: the paper names this form, arrays with their count.
 #[derive(Clone, Copy)]
 pub struct Offers {
     pub last: [u8; MOST_OFFERS],
@@ -64,6 +65,7 @@ pub struct Onto {
 }
 
 // What an offer carries: a token where `has` is 0, else the value.
+// kept: no Option, since these are two cells of a row, which go from row to row as they stand (fixed memory).
 #[derive(Clone, Copy)]
 pub struct Worth {
     pub has: u64,
@@ -104,12 +106,10 @@ fn controls(rows: &[u64], count: usize, k: u64) -> u64
         return 0;
     }
     let mut d: u64 = 0;
-    let mut j: usize = 0;
-    while j < count {
+    for j in 0..count {
         if rows[WIDTH * j + HAS] == 0 {
-            d = d | bit_of(j);
+            d |= bit_of(j);
         }
-        j += 1;
     }
     d
 }
@@ -120,8 +120,7 @@ fn clashes(rows: &[u64], count: usize, n: u64, k: u64, a: u64, c: u64) -> u64
     ensures { Hits (rows_in rows.now count) n k a c count result }
 {
     let mut d: u64 = 0;
-    let mut j: usize = 0;
-    while j < count {
+    for j in 0..count {
         if hits(
             n,
             k,
@@ -130,9 +129,8 @@ fn clashes(rows: &[u64], count: usize, n: u64, k: u64, a: u64, c: u64) -> u64
             rows[WIDTH * j + PARENTS],
             c,
         ) {
-            d = d | bit_of(j);
+            d |= bit_of(j);
         }
-        j += 1;
     }
     d
 }
@@ -180,6 +178,7 @@ pub fn paths_of(rows: &[u64], i: usize) -> usize
 }
 
 // The last edge of row i.
+// kept: three functions of a line each, of two types; one for all would be no plainer.
 pub fn last_of(rows: &[u64], i: usize) -> u8
     requires { (i < limits.most_offers) × (row_cells ≤ length rows.now) }
     ensures { result ≡ ((rows_in rows.now 0).entry i).last % 256 }
@@ -208,12 +207,10 @@ pub fn lead(rows: &mut [u64], count: usize, at: usize, j: usize, n: usize)
     requires { ((count < limits.most_offers) × (row_cells ≤ length rows.old)) × ((at ≤ 1000) × ((j < limits.most_offers) × (n ≤ limits.most_paths))) }
     ensures { Led rows.old rows.new count at j n }
 {
-    let mut k: usize = 0;
-    while k < n {
+    for k in 0..n {
         if at + k < MOST_PATHS {
             rows[WIDTH * count + BEFORE + (at + k)] = (MOST_PATHS * j + k + 1) as u64;
         }
-        k += 1;
     }
 }
 
@@ -221,8 +218,5 @@ pub fn lead(rows: &mut [u64], count: usize, at: usize, j: usize, n: usize)
 pub fn compete(f: u64, m: u64, g: u64, n: u64) -> bool
     ensures { result ≡ words_clash f m g n }
 {
-    if f & n != 0 {
-        return true;
-    }
-    g & m != 0
+    f & n != 0 || g & m != 0
 }

@@ -3,29 +3,28 @@
 // compete with offer i. Assumes no more than its `requires`.
 #![tactic(auto)]
 
-ghost use Rattle.std.specs.Prelude.{◌≡◌, true, ◌≤◌, ◌<◌, length};
-ghost use Rattle.offers_ahead.specs.Dead.{Dead, AheadRoom};
+ghost use Rattle.std.specs.Prelude.{◌≡◌, true, IfSome, ◌≤◌, ◌<◌, length};
+ghost use Rattle.offers_ahead.specs.Dead.{Dead, AheadRoom, Open};
 ghost use Rattle.paper.specs.Limits.{limits};
 
 use words::{bit_of, in_word};
 
-// The open edge with the fewest free offers; `to` if none is open. A hint: `dead` tests it.
-fn fewest(edges: &[u64], from: usize, to: usize, served: u64, blocked: u64) -> usize
+// The open edge with the fewest free offers, if one is open.
+fn fewest(edges: &[u64], from: usize, to: usize, served: u64, blocked: u64) -> Option<usize>
     requires { (to ≤ length edges.now) × (to ≤ limits.most_offers) }
+    ensures { IfSome result (λ k. Open from to served k) }
 {
-    let mut best = to;
+    let mut best = None;
     let mut low: u32 = 65;
-    let mut k = from;
-    while k < to {
+    for k in from..to {
         if !in_word(served, k) {
             // blocked offers count on every edge alike
             let n = u64::count_ones(edges[k] | blocked);
             if n < low {
-                best = k;
+                best = Some(k);
                 low = n;
             }
         }
-        k += 1;
     }
     best
 }
@@ -35,14 +34,10 @@ fn others(edges: &[u64], from: usize, to: usize, served: u64, k: usize) -> u64
     requires { (to ≤ length edges.now) × (to ≤ limits.most_offers) }
 {
     let mut x: u64 = 0;
-    let mut j = from;
-    while j < to {
-        if !in_word(served, j) {
-            if j != k {
-                x = x | edges[j];
-            }
+    for j in from..to {
+        if !in_word(served, j) && j != k {
+            x |= edges[j];
         }
-        j += 1;
     }
     x
 }
@@ -51,16 +46,10 @@ fn others(edges: &[u64], from: usize, to: usize, served: u64, k: usize) -> u64
 fn spare(rivals: &[u64], count: usize, s: u64, x: u64, blocked: u64) -> bool
     requires { (count ≤ length rivals.now) × (count ≤ limits.most_offers) }
 {
-    let mut i: usize = 0;
-    while i < count {
-        if in_word(s, i) {
-            if !in_word(blocked, i) {
-                if (rivals[i] & x) | blocked == blocked {
-                    return true;
-                }
-            }
+    for i in 0..count {
+        if in_word(s, i) && !in_word(blocked, i) && (rivals[i] & x) | blocked == blocked {
+            return true;
         }
-        i += 1;
     }
     false
 }
@@ -78,15 +67,13 @@ fn idle(
     requires { AheadRoom rivals.now edges.now count to }
 {
     let mut x: u64 = 0;
-    let mut k = from;
-    while k < to {
+    for k in from..to {
         if !in_word(served, k) {
             let y = others(edges, from, to, served | x, k);
             if spare(rivals, count, edges[k], y, blocked) {
-                x = x | bit_of(k);
+                x |= bit_of(k);
             }
         }
-        k += 1;
     }
     x
 }
@@ -110,37 +97,27 @@ pub fn dead(
         return false;
     }
     let v = served | idle(rivals, edges, count, from, to, served, blocked);
-    let k = fewest(edges, from, to, v, blocked);
-    if to <= k {
+    let Some(k) = fewest(edges, from, to, v, blocked) else {
         return false;
-    }
-    if k < from {
-        return false;
-    }
-    if in_word(v, k) {
-        return false;
-    }
+    };
     let s = edges[k];
     let u = v | bit_of(k);
-    let mut i: usize = 0;
-    while i < count {
-        if in_word(s, i) {
-            if !in_word(blocked, i) {
-                if !dead(
-                    rivals,
-                    edges,
-                    count,
-                    from,
-                    to,
-                    u,
-                    blocked | rivals[i],
-                    depth - 1,
-                ) {
-                    return false;
-                }
-            }
+    for i in 0..count {
+        if in_word(s, i)
+            && !in_word(blocked, i)
+            && !dead(
+                rivals,
+                edges,
+                count,
+                from,
+                to,
+                u,
+                blocked | rivals[i],
+                depth - 1,
+            )
+        {
+            return false;
         }
-        i += 1;
     }
     true
 }

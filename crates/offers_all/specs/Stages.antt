@@ -1,5 +1,6 @@
 -- The offers of all edges, edge by edge in order of rank. Assumes nothing.
-use Rattle.std.specs.Prelude.{◌≡◌, ℕ, ◌≤◌, ◌<◌, Bool, true, false, List, [], ◌++◌, ◌⊎◌, length, get_or}
+use Rattle.std.specs.Prelude.{◌≡◌, ℕ, ◌≤◌, ◌<◌, Bool, true, false, List, [], ◌++◌, ◌⊎◌, length, get_or, MatchOption}
+use Rattle.std.specs.Prelude.{Option as Answer}
 use Rattle.std.proofs.Math.Option.{Option, none}
 use Rattle.paper.specs.Lists.{at, all, keep, each, gather}
 use Rattle.paper.specs.Limits.{limits}
@@ -12,7 +13,7 @@ use Rattle.table.specs.Incoming.{ListFrom, Forward, Incoming}
 use Rattle.table_ranks.specs.Chains.{Framed}
 use Rattle.terms.specs.Terms.{Ties}
 use Rattle.marking.specs.declared.reading.Fields.{Fields}
-use Rattle.offers.specs.Rows.{Rows, Holds, Seg, fine}
+use Rattle.offers.specs.Rows.{Rows, rows_in, Holds, Seg, Ranges, fine}
 use Rattle.offers_over.specs.Over.{Names, Feeds, admitted, begun_on}
 use Rattle.offers_over.specs.declared.Gate.{Gate}
 use Rattle.offers.specs.declared.Onto.{Onto}
@@ -86,7 +87,7 @@ abbrev pub FirstOffers : List ℕ → Marking → List ℕ → Fields → Type 0
 FirstOffers t m b f =
     (e : ℕ) → e < edges t → is_control_node (kind t (source t e)) ≡ false → (s : Start)
     → FirstOffer b (kind t (source t e)) (at f.from (source t e)) (at f.kept (source t e)) (at f.tokens e) s
-    → firsts t m e ≡ begun_on e s.code s.value
+    → firsts t m e ≡ begun_on e s
 
 -- ranks rise along edges into control nodes, and there is a round for each; no control node has rank 0, and only control nodes have others
 pub record Rising (t rk : List ℕ) : Type 0 where
@@ -125,10 +126,13 @@ pub record Stage (t : List ℕ) (on : ℕ → List Offer) (rk : List ℕ) (r : �
 abbrev pub LeftFrom : List ℕ → (ℕ → List Offer) → List ℕ → ℕ → List ℕ → ℕ → Rows → List ℕ → List ℕ → Type 0
 LeftFrom t on rk r after e rows a b = (js : List ℕ) × (ds : List ℕ) × ListFrom after e js × Stage t on rk r js rows a b ds
 
--- after round r: all edges of rank r are done, or there are too many offers
-pub record AfterRound (t : List ℕ) (m : Marking) (goes : Gates) (rk : List ℕ) (r : ℕ) (rows : Rows) (ok : Bool) (a b : List ℕ) : Type 0 where
-  pub good : ok ≡ true → (ds : List ℕ) × Stage t (on_edge t goes m) rk r [] rows a b ds
-  pub bad : ok ≡ false → fine (offers t goes m) ≡ false
+-- every edge's part of the list: of so many offers as a function answers, or of as many as there may be where it answers none
+abbrev pub Parts : List ℕ → List ℕ → Answer ℕ → Type 0
+Parts a b n = MatchOption n (Ranges a b limits.most_offers) (λ c. (c ≤ limits.most_offers) × Ranges a b c)
+
+-- after round r: all edges of rank r are done, in so many rows of the cells x as a function answers, or there are too many offers
+abbrev pub AfterRound : List ℕ → Marking → Gates → List ℕ → ℕ → List ℕ → Answer ℕ → List ℕ → List ℕ → Type 0
+AfterRound t m goes rk r x n a b = MatchOption n (fine (offers t goes m) ≡ false) (λ c. (ds : List ℕ) × Stage t (on_edge t goes m) rk r [] (rows_in x c) a b ds)
 
 -- the whole list: some order of the edges, every edge's offers from a to b of the list in that order
 pub record Whole (t : List ℕ) (m : Marking) (goes : Gates) (rows : Rows) (a b : List ℕ) : Type 0 where
@@ -140,6 +144,6 @@ pub record Whole (t : List ℕ) (m : Marking) (goes : Gates) (rows : Rows) (a b 
   pub segs : (j : ℕ) → j < edges t → Seg (gather (on_edge t goes m) order) (get_or a j 0) (get_or b j 0) (on_edge t goes m j)
   pub sizes : fine (offers t goes m) ≡ true
 
-pub record Result (t : List ℕ) (m : Marking) (goes : Gates) (rows : Rows) (ok : Bool) (a b : List ℕ) : Type 0 where
-  pub good : ok ≡ true → Whole t m goes rows a b
-  pub bad : ok ≡ false → fine (offers t goes m) ≡ false
+-- the whole list in so many rows of the cells x as a function answers, or there are too many offers
+abbrev pub Result : List ℕ → Marking → Gates → List ℕ → Answer ℕ → List ℕ → List ℕ → Type 0
+Result t m goes x n a b = MatchOption n (fine (offers t goes m) ≡ false) (λ c. Whole t m goes (rows_in x c) a b)

@@ -1,4 +1,4 @@
--- First offers: the code and the value of an edge are what the definition says of a marking whose stock and count they were read from. Assumes nothing.
+-- First offers: what begins on an edge is what the definition says of a marking whose stock and count it was read from. Assumes nothing.
 use Prim.Native.Nat.{ℕ, zero, suc, ◌+◌, ◌*◌, ◌^◌, ◌≤◌, ◌<◌}
 use mathlib.Core.Path.{◌≡◌, refl, sym, subst, ◌∙◌}
 use mathlib.Core.Bool.{Bool, true, false, ◌||◌, cond}
@@ -24,17 +24,18 @@ use Rattle.marking.specs.Values.{ValuesNoted}
 use Rattle.marking.proofs.Laws.{counted_by_kind}
 use Rattle.offers_over.specs.Over.{begun_on}
 use Rattle.offers_over.specs.declared.Start.{Start}
-use Rattle.offers_first.specs.Starts.{start_code, FirstOffer}
+use Rattle.offers_over.specs.declared.Start.TheVariants.{Nothing, Token, Value}
+use Rattle.offers_first.specs.Starts.{start, FirstOffer}
 
--- ---- the code
-module _ (k kept tokens : ℕ) where
-  pub code_stocked : is_object_node k ≡ true → start_code k kept tokens ≡ cond (eqb kept 0) 0 2
-  unfolding start_code
-  code_stocked h = rw h
+-- ---- the start
+module _ (k kept tokens v : ℕ) where
+  pub start_stocked : is_object_node k ≡ true → start k kept tokens v ≡ cond (eqb kept 0) Nothing (Value v)
+  unfolding start
+  start_stocked h = rw h
 
-  pub code_counted : is_object_node k ≡ false → start_code k kept tokens ≡ cond (eqb tokens 0) 0 1
-  unfolding start_code
-  code_counted h = rw h
+  pub start_counted : is_object_node k ≡ false → start k kept tokens v ≡ cond (eqb tokens 0) Nothing Token
+  unfolding start
+  start_counted h = rw h
 
 -- ---- edges of a good table that leave no control node
 -- edges leave control nodes, object nodes, initial nodes and actions
@@ -75,7 +76,7 @@ oldest-is b v vs p n small h =
 module _ (t b : List ℕ) {x : Table} (h : table_read t ≡ good x) (m : Marking) (ok : Good t m) (e : ℕ) (l : e < edges t) (from kept tokens : ℕ) (s : Start)
     (g : FirstOffer b (kind t (source t e)) from kept tokens s) where
   abbrev Starts : Type 0
-  Starts = firsts t m e ≡ begun_on e s.code s.value
+  Starts = firsts t m e ≡ begun_on e s
 
   abbrev k : ℕ
   k = kind t (source t e)
@@ -85,22 +86,22 @@ module _ (t b : List ℕ) {x : Table} (h : table_read t ≡ good x) (m : Marking
   from-stock o n = by (m.stock (source t e)) refl
     where
       by : (vs : List ℕ) → m.stock (source t e) ≡ vs → Starts
-      by [] z = rw (object_uncounted t h e l o, o, z, g.code_is ∙ code_stocked k kept tokens o, n.many, z)
+      by [] z = rw (object_uncounted t h e l o, o, z, g.start_is ∙ start_stocked k kept tokens g.oldest o, n.many, z)
       by (v ∷ vs) z =
           let small : v < 2 ^ 32 = rw z at (ok.values (source t e) 0) in
           let w = oldest-is b v vs from kept small (subst (λ (xs : List ℕ). ValuesNoted b xs from kept) z n) in
-          rw (object_uncounted t h e l o, o, z, g.code_is ∙ code_stocked k kept tokens o, n.many, z, g.value-is w.0 ∙ w.1, ne_eqb (length (v ∷ vs)) 0 (λ x. omega (arith, x)))
+          rw (object_uncounted t h e l o, o, z, g.start_is ∙ start_stocked k kept tokens g.oldest o, n.many, z, g.value-is w.0 ∙ w.1, ne_eqb (length (v ∷ vs)) 0 (λ x. omega (arith, x)))
 
   from-count : is_control_node k ≡ false → is_object_node k ≡ false → tokens ≡ m.tokens e → Starts
   unfolding firsts
   from-count c o n = by (m.tokens e) refl
     where
       by : (i : ℕ) → m.tokens e ≡ i → Starts
-      by zero z = rw (other_counted t h e l c o, z, g.code_is ∙ code_counted k kept tokens o, n ∙ z)
-      by (suc i) z = rw (other_counted t h e l c o, z, g.code_is ∙ code_counted k kept tokens o, n ∙ z, le-leb 1 (suc i) (omega arith), ne_eqb (suc i) 0 (λ x. omega (arith, x)))
+      by zero z = rw (other_counted t h e l c o, z, g.start_is ∙ start_counted k kept tokens g.oldest o, n ∙ z)
+      by (suc i) z = rw (other_counted t h e l c o, z, g.start_is ∙ start_counted k kept tokens g.oldest o, n ∙ z, le-leb 1 (suc i) (omega arith), ne_eqb (suc i) 0 (λ x. omega (arith, x)))
 
   pub starts-are : is_control_node (kind t (source t e)) ≡ false → (is_object_node (kind t (source t e)) ≡ true → ValuesNoted b (m.stock (source t e)) from kept)
-      → (counted t e ≡ true → tokens ≡ m.tokens e) → firsts t m e ≡ begun_on e s.code s.value
+      → (counted t e ≡ true → tokens ≡ m.tokens e) → firsts t m e ≡ begun_on e s
   starts-are c stock count = by (is_object_node k) refl
     where
       by : (o : Bool) → is_object_node k ≡ o → Starts

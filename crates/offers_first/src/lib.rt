@@ -4,26 +4,10 @@
 
 ghost use Rattle.std.specs.Prelude.{◌≡◌, ◌+◌, ◌≤◌, length};
 ghost use Rattle.paper.specs.Bytes.{word_at};
-ghost use Rattle.offers_first.specs.Starts.{start_code, FirstOffer};
+ghost use Rattle.offers_first.specs.Starts.{FirstOffer};
 
 use offers_over::Start;
 use table::is_object_node;
-
-// What an edge carries first, from the kind of its source, how many values that keeps, and the edge's count.
-fn start_code(k: usize, kept: u8, tokens: u8) -> u8
-    ensures { result ≡ start_code k kept tokens }
-{
-    if is_object_node(k) {
-        if kept == 0 {
-            return 0;
-        }
-        return 2;
-    }
-    if tokens == 0 {
-        return 0;
-    }
-    1
-}
 
 // The value in the four bytes from a place on; a place too near the end has none.
 fn oldest(b: &[u8], place: usize) -> u32
@@ -39,12 +23,19 @@ fn oldest(b: &[u8], place: usize) -> u32
     wire::read32(b, place)
 }
 
-// The first offer on an edge whose source has kind k and keeps `kept` values in the marking b, the oldest of them at place `from`.
+// The first offer on an edge whose source has kind k and keeps `kept` values in the marking b, the oldest of them at place `from`; `tokens` is the
+// edge's count.
 pub fn first_offer(b: &[u8], k: usize, from: usize, kept: u8, tokens: u8) -> Start
     ensures { FirstOffer b.now k from kept tokens result }
 {
-    Start {
-        code: start_code(k, kept, tokens),
-        value: oldest(b, from),
+    if is_object_node(k) {
+        if kept == 0 {
+            return Start::Nothing;
+        }
+        return Start::Value(oldest(b, from));
     }
+    if tokens == 0 {
+        return Start::Nothing;
+    }
+    Start::Token
 }

@@ -1,6 +1,7 @@
 -- A join: its ways found depth first, what the offers taken come to, and the words that the search goes by. `goes` says which values go over the
 -- outgoing edge. Assumes nothing.
-use Rattle.std.specs.Prelude.{◌≡◌, ℕ, ◌+◌, ◌^◌, ◌≤◌, ◌<◌, Bool, true, not, ◌&&◌, cond, List, [], ◌∷◌, ◌++◌, length, get_or}
+use Rattle.std.specs.Prelude.{◌≡◌, ℕ, ◌+◌, ◌^◌, ◌≤◌, ◌<◌, Bool, true, not, ◌&&◌, cond, List, [], ◌∷◌, ◌++◌, length, get_or, MatchOption}
+use Rattle.std.specs.Prelude.{Option as Answer}
 use Rattle.std.proofs.Math.Option.{Option, none}
 use Rattle.paper.specs.Lists.{all, any, each, gather, has}
 use Rattle.paper.specs.Table.{edges, target, into}
@@ -14,8 +15,6 @@ use Rattle.offers.specs.Rows.{row_cells, Rows, Holds, Leads, value_of, Seg}
 use Rattle.offers_over.specs.Over.{let_over, overs, LeavesControl}
 use Rattle.offers.specs.declared.Onto.{Onto}
 use Rattle.offers_join.specs.declared.Way.{Way}
-use Rattle.offers_join.specs.declared.Brought.{Brought}
-use Rattle.offers_join.specs.declared.Brought.TheVariants.{OnEach, Nothing}
 
 -- ---- the search, on trees
 -- the offers of a way, as the join has them
@@ -136,10 +135,9 @@ pub data Unserved (a b js : List ℕ) : Type 0 where
   bare : (j : ℕ) → In j js → get_or b j 0 ≤ get_or a j 0 → Unserved a b js
   too_many : limits.most_offers < length js → Unserved a b js
 
--- what was found of the edges js
-abbrev pub Brings : List ℕ → List ℕ → List ℕ → List ℕ → List ℕ → Brought → Type 0
-Brings a b js lo hi (OnEach d) = Served a b js lo hi d
-Brings a b js lo hi Nothing = Unserved a b js
+-- what was found of the edges js: offers on each of so many, or none that can be joined
+abbrev pub Brings : List ℕ → List ℕ → List ℕ → List ℕ → List ℕ → Answer ℕ → Type 0
+Brings a b js lo hi r = MatchOption r (Unserved a b js) (λ d. Served a b js lo hi d)
 
 -- the offers on the edges into the join are to be joined, as far as they go over the edge
 pub record Meeting (t : List ℕ) (goes : Option ℕ → Bool) (r : Rows) (ts : List Offer) (on : ℕ → List Offer)

@@ -12,7 +12,7 @@ ghost use Rattle.table.specs.Incoming.{ListFrom};
 ghost use Rattle.offers_ahead.specs.Dead.{Dead, AheadRoom};
 ghost use Rattle.offers.specs.Sets.{nth};
 ghost use Rattle.offers.specs.Rows.{row_cells, rows_in, Holds};
-ghost use Rattle.offers_over.specs.Over.{admitted, let_over, LeavesControl, Outcome, overs, Space, Feeds};
+ghost use Rattle.offers_over.specs.Over.{admitted, let_over, LeavesControl, Grown, Outcome, overs, Space, Feeds};
 ghost use Rattle.offers_join.specs.Joins.{together, found_ways, Taken, Picked, RivalRow, Rivals, Span, SegmentWords, BarredRows, Within, Safe, Dfs, Brings, Meeting};
 ghost use Rattle.paper.specs.Limits.{limits};
 
@@ -20,7 +20,7 @@ use offers::{
     FOES, HAS, MAKERS, MOST_OFFERS, MOST_PATHS, Onto, VALUE, WIDTH, Worth, compete, grow, lead,
     paths_of,
 };
-use offers_over::{Gate, Grown, admits};
+use offers_over::{Gate, admits};
 use table::Table;
 use wire::wide;
 use words::{bit_of, in_word};
@@ -33,12 +33,10 @@ fn rivals_of(rows: &[u64], count: usize, i: usize) -> u64
     let m = rows[WIDTH * i + MAKERS];
     let f = rows[WIDTH * i + FOES];
     let mut d: u64 = 0;
-    let mut j: usize = 0;
-    while j < count {
+    for j in 0..count {
         if compete(f, m, rows[WIDTH * j + FOES], rows[WIDTH * j + MAKERS]) {
-            d = d | bit_of(j);
+            d |= bit_of(j);
         }
-        j += 1;
     }
     d
 }
@@ -48,12 +46,10 @@ fn rival_rows(rows: &[u64], count: usize, wanted: u64, rivals: &mut [u64])
     requires { ((count ≤ limits.most_offers) × (row_cells ≤ length rows.now)) × (limits.most_offers ≤ length rivals.old) }
     ensures { (t : List ℕ) (ts : List Offer) → Holds t (rows_in rows.now count) ts → Rivals t ts count wanted rivals.new }
 {
-    let mut i: usize = 0;
-    while i < count {
+    for i in 0..count {
         if in_word(wanted, i) {
             rivals[i] = rivals_of(rows, count, i);
         }
-        i += 1;
     }
 }
 
@@ -63,10 +59,8 @@ fn span(a: usize, b: usize) -> u64
     ensures { Span a b result }
 {
     let mut d: u64 = 0;
-    let mut i = a;
-    while i < b {
-        d = d | bit_of(i);
-        i += 1;
+    for i in a..b {
+        d |= bit_of(i);
     }
     d
 }
@@ -77,12 +71,10 @@ fn spans(lo: &[u8], hi: &[u8], d: usize, edges: &mut [u64]) -> u64
     ensures { SegmentWords lo.now hi.now d edges.new result }
 {
     let mut wanted: u64 = 0;
-    let mut k: usize = 0;
-    while k < d {
+    for k in 0..d {
         let s = span(wide(lo[k]), wide(hi[k]));
         edges[k] = s;
-        wanted = wanted | s;
-        k += 1;
+        wanted |= s;
     }
     wanted
 }
@@ -93,17 +85,16 @@ fn barred(rows: &[u64], count: usize, gate: Gate) -> u64
     ensures { (t : List ℕ) (ts : List Offer) → Holds t (rows_in rows.now count) ts → BarredRows (admitted gate) ts count result }
 {
     let mut d: u64 = 0;
-    let mut j: usize = 0;
-    while j < count {
+    for j in 0..count {
         if !admits(gate, rows[WIDTH * j + HAS], rows[WIDTH * j + VALUE]) {
-            d = d | bit_of(j);
+            d |= bit_of(j);
         }
-        j += 1;
     }
     d
 }
 
 // What the offers taken at a join come to.
+// kept: `has` and `value` are cells of a row, as in `Worth`.
 #[derive(Clone, Copy)]
 struct Way {
     pub parents: u64,
@@ -159,32 +150,24 @@ fn taken(rows: &mut [u64], count: usize, chosen: &[u8], d: usize) -> Way
         has: 0,
         value: 0,
     };
-    let mut q: usize = 0;
-    while q < d {
+    for q in 0..d {
         w = add(rows, count, w, wide(chosen[q]));
-        q += 1;
     }
     w
 }
 
 // The d offers chosen, joined.
-fn leaf(rows: &mut [u64], count: usize, chosen: &[u8], d: usize, onto: Onto) -> Grown
+fn leaf(rows: &mut [u64], count: usize, chosen: &[u8], d: usize, onto: Onto) -> Option<usize>
     requires { ((count ≤ limits.most_offers) × (row_cells ≤ length rows.old)) × (((d ≤ limits.most_offers) × (d ≤ length chosen.now)) × ((k : ℕ) → k < d → get_or chosen.now k 0 < limits.most_offers)) }
-    ensures { ((count ≤ result.count) × (result.count ≤ limits.most_offers)) × ((t : List ℕ) (ts ps : List Offer) → Holds t (rows_in rows.old count) ts → Picked ts chosen.now d ps → 0 < length ps → (In (over (together ps) onto.edge) ts → ⊥) → LeavesControl t onto → Outcome t (rows_in rows.new result.count) result.ok (ts ++ (over (together ps) onto.edge ∷ []))) }
+    ensures { Grown count result × ((t : List ℕ) (ts ps : List Offer) → Holds t (rows_in rows.old count) ts → Picked ts chosen.now d ps → 0 < length ps → (In (over (together ps) onto.edge) ts → ⊥) → LeavesControl t onto → Outcome t rows.new result (ts ++ (over (together ps) onto.edge ∷ []))) }
 {
     if MOST_OFFERS <= count {
-        return Grown {
-            count: count,
-            ok: false,
-        };
+        return None;
     }
     let w = taken(rows, count, chosen, d);
     let p = w.paths;
     if MOST_PATHS < p {
-        return Grown {
-            count: count,
-            ok: false,
-        };
+        return None;
     }
     let worth = Worth {
         has: w.has,
@@ -193,10 +176,7 @@ fn leaf(rows: &mut [u64], count: usize, chosen: &[u8], d: usize, onto: Onto) -> 
     grow(
         rows, count, onto, worth, p as u64, w.parents, w.makers, w.foes,
     );
-    Grown {
-        count: count + 1,
-        ok: true,
-    }
+    Some(count + 1)
 }
 
 // Whether it is sure that no way goes on. With one or two edges left the search itself is as quick.
@@ -204,13 +184,7 @@ fn lost(rivals: &[u64], edges: &[u64], n: usize, q: usize, d: usize, blocked: u6
     requires { AheadRoom rivals.now edges.now n d }
     ensures { result ≡ true → Dead rivals.now edges.now n q d 0 blocked }
 {
-    if d <= q {
-        return false;
-    }
-    if d - q <= 2 {
-        return false;
-    }
-    offers_ahead::dead(rivals, edges, n, q, d, 0, blocked, d)
+    q < d && 2 < d - q && offers_ahead::dead(rivals, edges, n, q, d, 0, blocked, d)
 }
 
 // The search for ways, depth first: offers are chosen on the edges before q, and those in `blocked` compete with one of them or are barred by the
@@ -229,26 +203,23 @@ fn join(
     q: usize,
     blocked: u64,
     onto: Onto,
-) -> Grown
+) -> Option<usize>
     requires { Safe rows.old lo.now hi.now rivals.now edges.now chosen.old n count d q }
-    ensures { ((count ≤ result.count) × (result.count ≤ limits.most_offers)) × (((k : ℕ) → k < q → get_or chosen.new k 0 ≡ get_or chosen.old k 0) × ((t : List ℕ) (goes : Option ℕ → Bool) (ts pre : List Offer) (oss : List (List Offer)) (wanted : ℕ) → Dfs t goes (rows_in rows.old count) ts pre oss lo.now hi.now rivals.now edges.now chosen.old n d q blocked wanted onto → Outcome t (rows_in rows.new result.count) result.ok (ts ++ found_ways t goes onto.edge pre oss))) }
+    ensures { Grown count result × (((k : ℕ) → k < q → get_or chosen.new k 0 ≡ get_or chosen.old k 0) × ((t : List ℕ) (goes : Option ℕ → Bool) (ts pre : List Offer) (oss : List (List Offer)) (wanted : ℕ) → Dfs t goes (rows_in rows.old count) ts pre oss lo.now hi.now rivals.now edges.now chosen.old n d q blocked wanted onto → Outcome t rows.new result (ts ++ found_ways t goes onto.edge pre oss))) }
 {
     if q == d {
         return leaf(rows, count, chosen, d, onto);
     }
     if lost(rivals, edges, n, q, d, blocked) {
-        return Grown {
-            count: count,
-            ok: true,
-        };
+        return Some(count);
     }
+    let from = wide(lo[q]);
     let end = wide(hi[q]);
     let mut c = count;
-    let mut i = wide(lo[q]);
-    while i < end {
+    for i in from..end {
         if !in_word(blocked, i) {
             chosen[q] = i as u8;
-            let g = join(
+            c = join(
                 rows,
                 c,
                 lo,
@@ -261,25 +232,13 @@ fn join(
                 q + 1,
                 blocked | rivals[i],
                 onto,
-            );
-            if !g.ok {
-                return g;
-            }
-            c = g.count;
+            )?;
         }
-        i += 1;
     }
-    Grown { count: c, ok: true }
+    Some(c)
 }
 
-// What the edges into a join bring: offers on each of so many edges, or nothing that can be joined.
-#[derive(Clone, Copy)]
-enum Brought {
-    OnEach(usize),
-    Nothing,
-}
-
-// The segments of the incoming edges of node s, in order, and their number. Each edge needs an offer of its own: nothing comes through where one has none,
+// The segments of the incoming edges of node s, in order, and their number. Each edge needs an offer of its own: none can be joined where one has none,
 // nor where there are more edges than there may be offers.
 fn incoming(
     first: &[u8],
@@ -289,7 +248,7 @@ fn incoming(
     s: u8,
     lo: &mut [u8],
     hi: &mut [u8],
-) -> Brought
+) -> Option<usize>
     requires { Feeds first.now next.now s × (((limits.most_edges ≤ length from.now) × (limits.most_edges ≤ length to.now)) × ((limits.most_offers ≤ length lo.old) × (limits.most_offers ≤ length hi.old))) }
     ensures { (js : List ℕ) → ListFrom next.now (get_or first.now s 0) js → Brings from.now to.now js lo.new hi.new result }
 {
@@ -297,10 +256,10 @@ fn incoming(
     let mut j = wide(first[wide(s)]);
     while j < Table::MOST_EDGES {
         if MOST_OFFERS <= d {
-            return Brought::Nothing; // more edges than offers
+            return None; // more edges than offers
         }
         if to[j] <= from[j] {
-            return Brought::Nothing;
+            return None;
         }
         lo[d] = from[j];
         hi[d] = to[j];
@@ -308,9 +267,9 @@ fn incoming(
         j = wide(next[j]);
     }
     if d == 0 {
-        return Brought::Nothing;
+        return None;
     }
-    Brought::OnEach(d)
+    Some(d)
 }
 
 // The offers on the edges into a join, joined as far as the gate lets them.
@@ -323,20 +282,14 @@ pub fn meet(
     to: &[u8],
     onto: Onto,
     gate: Gate,
-) -> Grown
+) -> Option<usize>
     requires { Space rows.old from.now to.now count × Feeds first.now next.now onto.node }
-    ensures { ((count ≤ result.count) × (result.count ≤ limits.most_offers)) × ((t : List ℕ) (ts : List Offer) (on : ℕ → List Offer) → Meeting t (admitted gate) (rows_in rows.old count) ts on first.now next.now from.now to.now onto → Outcome t (rows_in rows.new result.count) result.ok (ts ++ overs onto.edge (let_over (admitted gate) (ways t (each on (into t onto.node)))))) }
+    ensures { Grown count result × ((t : List ℕ) (ts : List Offer) (on : ℕ → List Offer) → Meeting t (admitted gate) (rows_in rows.old count) ts on first.now next.now from.now to.now onto → Outcome t rows.new result (ts ++ overs onto.edge (let_over (admitted gate) (ways t (each on (into t onto.node)))))) }
 {
     let mut lo = [0u8; MOST_OFFERS];
     let mut hi = [0u8; MOST_OFFERS];
-    let d = match incoming(first, next, from, to, onto.node, &mut lo, &mut hi) {
-        Brought::OnEach(d) => d,
-        Brought::Nothing => {
-            return Grown {
-                count: count,
-                ok: true,
-            }
-        }
+    let Some(d) = incoming(first, next, from, to, onto.node, &mut lo, &mut hi) else {
+        return Some(count);
     };
     let mut edges = [0u64; MOST_OFFERS];
     let mut rivals = [0u64; MOST_OFFERS];

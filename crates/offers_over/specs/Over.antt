@@ -1,32 +1,40 @@
 -- What goes over an edge: offers that its gate lets, extended over it or begun on it, and the rows after it. Assumes nothing.
-use Rattle.std.specs.Prelude.{◌≡◌, ℕ, ◌-◌, ◌≤◌, ◌<◌, Bool, true, false, ◌&&◌, cond, List, [], ◌∷◌, ◌++◌, eqb, length, get_or}
+use Rattle.std.specs.Prelude.{◌≡◌, ℕ, ◌≤◌, ◌<◌, Bool, true, false, List, [], ◌∷◌, ◌++◌, length, get_or, MatchOption, IfSome}
+use Rattle.std.specs.Prelude.{Option as Answer}
 use Rattle.std.proofs.Math.Option.{Option, none, some}
-use Rattle.paper.specs.Lists.{each, gather, keep, within, ◌⇒◌}
+use Rattle.paper.specs.Lists.{each, gather, keep, within}
 use Rattle.paper.specs.Limits.{limits}
 use Rattle.paper.specs.Table.{edges, source, target, kind, into, is_control_node}
 use Rattle.paper.specs.Offers.{Offer, first, over, value}
 use Rattle.paper.proofs.Members.{Distinct}
 use Rattle.table.specs.Incoming.{ListFrom, Forward}
-use Rattle.offers.specs.Rows.{row_cells, Rows, value_of, Holds, fine, Seg, Ranges}
+use Rattle.offers.specs.Rows.{row_cells, Rows, rows_in, Holds, fine, Seg, Ranges}
 use Rattle.offers.specs.declared.Onto.{Onto}
 use Rattle.offers_over.specs.declared.Gate.{Gate}
+use Rattle.offers_over.specs.declared.Gate.TheVariants.{Closed, Open, Within}
 use Rattle.offers_over.specs.declared.Start.{Start}
+use Rattle.offers_over.specs.declared.Start.TheVariants.{Nothing, Token, Value}
 
 -- ---- gates
 -- whether a gate lets an offer with this value over its edge
 abbrev pub admitted : Gate → Option ℕ → Bool
-admitted y none = y.opened
-admitted y (some v) = y.opened && (y.listed ⇒ within y.low y.high v)
+admitted Closed v = false
+admitted Open v = true
+admitted (Within low high) none = true
+admitted (Within low high) (some v) = within low high v
 
 -- those of xs that are let over an edge, where `lets v` says whether an offer with value v is
 abbrev pub let_over : (Option ℕ → Bool) → List Offer → List Offer
 let_over lets xs = keep (λ x. lets (value x)) xs
 
 -- ---- the rows after it
--- the list us is held, or is too long
-pub record Outcome (t : List ℕ) (r : Rows) (ok : Bool) (us : List Offer) : Type 0 where
-  pub good : ok ≡ true → Holds t r us
-  pub bad : ok ≡ false → fine us ≡ false
+-- so many rows as a function answers: no fewer than the c before it, and there is room for them
+abbrev pub Grown : ℕ → Answer ℕ → Type 0
+Grown c r = IfSome r (λ n. (c ≤ n) × (n ≤ limits.most_offers))
+
+-- the list us is held in so many rows of the cells m as a function answers, or is too long where it answers none
+abbrev pub Outcome : List ℕ → List ℕ → Answer ℕ → List Offer → Type 0
+Outcome t m r us = MatchOption r (fine us ≡ false) (λ n. Holds t (rows_in m n) us)
 
 -- ---- offers extended
 abbrev pub overs : ℕ → List Offer → List Offer
@@ -71,12 +79,14 @@ pub record Pass (t : List ℕ) (r : Rows) (ts : List Offer) (on : ℕ → List O
   pub distinct : Distinct (ts ++ overs o.edge (let_over lets (gather on (into t o.node))))
   pub leaves : LeavesControl t o
 
--- a first offer on e, as the caller has read it: 0 none, 1 a token, 2 the value v
-abbrev pub begun_on : ℕ → ℕ → ℕ → List Offer
-begun_on e c v = cond (eqb c 0) [] (first e (value_of (c - 1) v) ∷ [])
+-- a first offer on e, as the caller has read it
+abbrev pub begun_on : ℕ → Start → List Offer
+begun_on e Nothing = []
+begun_on e Token = first e none ∷ []
+begun_on e (Value v) = first e (some v) ∷ []
 
--- it is to be put behind ts, if it is let over the edge
-pub record Begin (t : List ℕ) (r : Rows) (ts : List Offer) (o : Onto) (s : Start) (lets : Option ℕ → Bool) : Type 0 where
+-- the first offers us are to be put behind ts, as far as they are let over the edge
+pub record Begin (t : List ℕ) (r : Rows) (ts : List Offer) (o : Onto) (us : List Offer) (lets : Option ℕ → Bool) : Type 0 where
   pub holds_ts : Holds t r ts
-  pub distinct : Distinct (ts ++ let_over lets (begun_on o.edge s.code s.value))
+  pub distinct : Distinct (ts ++ let_over lets us)
   pub names : Names t o

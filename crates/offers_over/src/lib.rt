@@ -2,14 +2,14 @@
 // Of the table it reads nothing but the lists of the edges into each node.
 #![tactic(auto)]
 
-ghost use Rattle.std.specs.Prelude.{◌≡◌, List, [], ◌∷◌, ◌++◌, ℕ, ◌+◌, ◌≤◌, ◌<◌, length};
+ghost use Rattle.std.specs.Prelude.{◌≡◌, List, [], ◌∷◌, ◌++◌, ℕ, ◌+◌, ◌^◌, ◌≤◌, ◌<◌, length};
 ghost use Rattle.paper.specs.Lists.{gather};
 ghost use Rattle.paper.specs.Table.{into};
-ghost use Rattle.paper.specs.Offers.{Offer, over};
+ghost use Rattle.paper.specs.Offers.{Offer, first, over};
 ghost use Rattle.paper.proofs.Members.{In};
 ghost use Rattle.offers.specs.Sets.{nth};
 ghost use Rattle.offers.specs.Rows.{rows_in, row_cells, value_of, Holds};
-ghost use Rattle.offers_over.specs.Over.{admitted, let_over, Outcome, overs, LeavesControl, Ext, Space, Feeds, Pass, begun_on, Begin};
+ghost use Rattle.offers_over.specs.Over.{admitted, let_over, Grown, Outcome, overs, LeavesControl, Ext, Space, Feeds, Pass, begun_on, Begin};
 ghost use Rattle.paper.specs.Limits.{limits};
 
 use offers::{
@@ -19,41 +19,27 @@ use table::Table;
 use wire::wide;
 use words::bit_of;
 
-// What an edge lets over it: nothing unless it is open; and if bounds are listed for it, of values those from low to high.
-#[derive(Clone, Copy)]
-pub struct Gate {
-    pub opened: bool,
-    pub listed: bool,
-    pub low: u64,
-    pub high: u64,
+// What an edge lets over it: nothing, whatever comes, or of values those from `low` to `high` and whatever has no value.
+#[derive(Clone, Copy, Debug, PartialEq, Eq)]
+pub enum Gate {
+    Closed,
+    Open,
+    Within { low: u64, high: u64 },
 }
 
 // Whether an offer goes over an edge; h is 0 where it has no value, else v is its value.
 pub fn admits(gate: Gate, h: u64, v: u64) -> bool
     ensures { result ≡ admitted gate (value_of h v) }
 {
-    if !gate.opened {
-        return false;
+    match gate {
+        Gate::Closed => false,
+        Gate::Open => true,
+        Gate::Within { low, high } => h == 0 || low <= v && v <= high,
     }
-    if h == 0 {
-        return true;
-    }
-    if !gate.listed {
-        return true;
-    }
-    if v < gate.low {
-        return false;
-    }
-    v <= gate.high
 }
 
 // ---- offers extended, and first offers
-// The rows after a function that makes some, or the news that there are too many offers or paths.
-#[derive(Clone, Copy)]
-pub struct Grown {
-    pub count: usize,
-    pub ok: bool,
-}
+// A function that makes rows answers how many there are after it; none where there are too many offers or paths.
 
 // Offer i extended.
 fn extend(rows: &mut [u64], count: usize, i: usize, onto: Onto)
@@ -73,88 +59,77 @@ fn extend(rows: &mut [u64], count: usize, i: usize, onto: Onto)
 }
 
 // Offer i extended, if the gate lets it. One that it bars is not counted, however full the rows are.
-fn extend_one(rows: &mut [u64], count: usize, i: usize, onto: Onto, gate: Gate) -> Grown
+fn extend_one(rows: &mut [u64], count: usize, i: usize, onto: Onto, gate: Gate) -> Option<usize>
     requires { ((i < count) × (count ≤ limits.most_offers)) × (row_cells ≤ length rows.old) }
-    ensures { ((count ≤ result.count) × (result.count ≤ limits.most_offers)) × ((t : List ℕ) (ts : List Offer) (x : Offer) → Ext t (rows_in rows.old count) ts (x ∷ []) i (i + 1) onto (admitted gate) → Outcome t (rows_in rows.new result.count) result.ok (ts ++ overs onto.edge (let_over (admitted gate) (x ∷ [])))) }
+    ensures { Grown count result × ((t : List ℕ) (ts : List Offer) (x : Offer) → Ext t (rows_in rows.old count) ts (x ∷ []) i (i + 1) onto (admitted gate) → Outcome t rows.new result (ts ++ overs onto.edge (let_over (admitted gate) (x ∷ [])))) }
 {
     if !admits(gate, rows[WIDTH * i + HAS], rows[WIDTH * i + VALUE]) {
-        return Grown {
-            count: count,
-            ok: true,
-        };
+        return Some(count);
     }
     if MOST_OFFERS <= count {
-        return Grown {
-            count: count,
-            ok: false,
-        };
+        return None;
     }
     extend(rows, count, i, onto);
-    Grown {
-        count: count + 1,
-        ok: true,
-    }
+    Some(count + 1)
 }
 
 // Those of the offers a to b that the gate lets over, extended.
-fn extend_all(rows: &mut [u64], count: usize, a: usize, b: usize, onto: Onto, gate: Gate) -> Grown
+fn extend_all(
+    rows: &mut [u64],
+    count: usize,
+    a: usize,
+    b: usize,
+    onto: Onto,
+    gate: Gate,
+) -> Option<usize>
     requires { ((a ≤ b) × (b ≤ count)) × ((count ≤ limits.most_offers) × (row_cells ≤ length rows.old)) }
-    ensures { ((count ≤ result.count) × (result.count ≤ limits.most_offers)) × ((t : List ℕ) (ts xs : List Offer) → Ext t (rows_in rows.old count) ts xs a b onto (admitted gate) → Outcome t (rows_in rows.new result.count) result.ok (ts ++ overs onto.edge (let_over (admitted gate) xs))) }
+    ensures { Grown count result × ((t : List ℕ) (ts xs : List Offer) → Ext t (rows_in rows.old count) ts xs a b onto (admitted gate) → Outcome t rows.new result (ts ++ overs onto.edge (let_over (admitted gate) xs))) }
 {
     let mut c = count;
-    let mut i = a;
-    while i < b {
-        let g = extend_one(rows, c, i, onto, gate);
-        if !g.ok {
-            return g;
-        }
-        c = g.count;
-        i += 1;
+    for i in a..b {
+        c = extend_one(rows, c, i, onto, gate)?;
     }
-    Grown { count: c, ok: true }
+    Some(c)
 }
 
-// What an edge carries at first: nothing for code 0, a token for 1, the value for 2.
-#[derive(Clone, Copy)]
-pub struct Start {
-    pub code: u8,
-    pub value: u32,
-}
-
-// A first offer, if there is one and the gate lets it.
-pub fn begin(rows: &mut [u64], count: usize, onto: Onto, gate: Gate, start: Start) -> Grown
-    requires { (count ≤ limits.most_offers) × (row_cells ≤ length rows.old) }
-    ensures { ((count ≤ result.count) × (result.count ≤ limits.most_offers)) × ((t : List ℕ) (ts : List Offer) → Begin t (rows_in rows.old count) ts onto start (admitted gate) → Outcome t (rows_in rows.new result.count) result.ok (ts ++ let_over (admitted gate) (begun_on onto.edge start.code start.value))) }
+// An offer that begins, if the gate lets it.
+fn begin_one(rows: &mut [u64], count: usize, onto: Onto, gate: Gate, worth: Worth) -> Option<usize>
+    requires { (count ≤ limits.most_offers) × (row_cells ≤ length rows.old) × (worth.has < 2 ^ 8) × (worth.value < 2 ^ 32) }
+    ensures { Grown count result × ((t : List ℕ) (ts : List Offer) → Begin t (rows_in rows.old count) ts onto (first onto.edge (value_of worth.has worth.value) ∷ []) (admitted gate) → Outcome t rows.new result (ts ++ let_over (admitted gate) (first onto.edge (value_of worth.has worth.value) ∷ []))) }
 {
-    let code = start.code;
-    if code == 0 {
-        return Grown {
-            count: count,
-            ok: true,
-        };
-    }
-    let worth = Worth {
-        has: (code - 1) as u64,
-        value: start.value as u64,
-    };
     if !admits(gate, worth.has, worth.value) {
-        return Grown {
-            count: count,
-            ok: true,
-        };
+        return Some(count);
     }
     if MOST_OFFERS <= count {
-        return Grown {
-            count: count,
-            ok: false,
-        };
+        return None;
     }
     rows[WIDTH * count + BEFORE] = 0;
     grow(rows, count, onto, worth, 1, 0, 0, 0);
-    Grown {
-        count: count + 1,
-        ok: true,
-    }
+    Some(count + 1)
+}
+
+// What an edge carries at first.
+#[derive(Clone, Copy, Debug, PartialEq, Eq)]
+pub enum Start {
+    Nothing,
+    Token,
+    Value(u32),
+}
+
+// A first offer, if there is one and the gate lets it.
+pub fn begin(rows: &mut [u64], count: usize, onto: Onto, gate: Gate, start: Start) -> Option<usize>
+    requires { (count ≤ limits.most_offers) × (row_cells ≤ length rows.old) }
+    ensures { Grown count result × ((t : List ℕ) (ts : List Offer) → Begin t (rows_in rows.old count) ts onto (begun_on onto.edge start) (admitted gate) → Outcome t rows.new result (ts ++ let_over (admitted gate) (begun_on onto.edge start))) }
+{
+    let worth = match start {
+        Start::Nothing => return Some(count),
+        Start::Token => Worth { has: 0, value: 0 },
+        Start::Value(v) => Worth {
+            has: 1,
+            value: v as u64,
+        },
+    };
+    begin_one(rows, count, onto, gate, worth)
 }
 
 // The offers on each edge into the node that the gate lets over, extended. `first` and `next` list the edges into each node, `from` and `to` are the
@@ -168,21 +143,15 @@ pub fn pass(
     to: &[u8],
     onto: Onto,
     gate: Gate,
-) -> Grown
+) -> Option<usize>
     requires { Space rows.old from.now to.now count × Feeds first.now next.now onto.node }
-    ensures { ((count ≤ result.count) × (result.count ≤ limits.most_offers)) × ((t : List ℕ) (ts : List Offer) (on : ℕ → List Offer) → Pass t (rows_in rows.old count) ts on first.now next.now from.now to.now onto (admitted gate) → Outcome t (rows_in rows.new result.count) result.ok (ts ++ overs onto.edge (let_over (admitted gate) (gather on (into t onto.node))))) }
+    ensures { Grown count result × ((t : List ℕ) (ts : List Offer) (on : ℕ → List Offer) → Pass t (rows_in rows.old count) ts on first.now next.now from.now to.now onto (admitted gate) → Outcome t rows.new result (ts ++ overs onto.edge (let_over (admitted gate) (gather on (into t onto.node))))) }
 {
     let mut c = count;
     let mut j = wide(first[wide(onto.node)]);
     while j < Table::MOST_EDGES {
-        let a = wide(from[j]);
-        let b = wide(to[j]);
-        let g = extend_all(rows, c, a, b, onto, gate);
-        if !g.ok {
-            return g;
-        }
-        c = g.count;
+        c = extend_all(rows, c, wide(from[j]), wide(to[j]), onto, gate)?;
         j = wide(next[j]);
     }
-    Grown { count: c, ok: true }
+    Some(c)
 }

@@ -12,8 +12,7 @@ use Rattle.paper.proofs.Bools.{never}
 use Rattle.paper.proofs.EmptyChoice.{empty_acceptable}
 use Rattle.paper.proofs.Picks.{searched_on, search_picks}
 use Rattle.offers.specs.declared.Offers.{Offers}
-use Rattle.pick_search.specs.declared.ChoiceFound.{ChoiceFound}
-use Rattle.pick_search.specs.declared.ChoiceFound.TheVariants.{Choice, Nothing}
+use Rattle.std.specs.Prelude.{Option, Some, None}
 use Rattle.ends_masks.specs.Seating.{Stands}
 use Rattle.ends_masks.specs.declared.Ends.{Ends}
 use Rattle.pick_rules.specs.Rules.{holds}
@@ -27,19 +26,19 @@ use Rattle.choice.proofs.Laws.{taken-numbers}
 use Rattle.pick.specs.Picking.{Answered}
 
 -- ---- what the search answers, of tests that agree
-pub answers_holds : (net : List ℕ) (k : ℕ) → 20 + 4 * k ≤ length net → (want : Wanted) (n : ℕ) (f : ChoiceFound) → Answers (net_of (take (20 + 4 * k) net) want) n f
+pub answers_holds : (net : List ℕ) (k : ℕ) → 20 + 4 * k ≤ length net → (want : Wanted) (n : ℕ) (f : Option ℕ) → Answers (net_of (take (20 + 4 * k) net) want) n f
     → Answered (λ c. holds net k n c && leb want.least (held n c want.ends)) n f
 unfolding Answers Answered
-answers_holds net k room want n (Choice c) a =
+answers_holds net k room want n (Some c) a =
     first-same (passes n (net_of (take (20 + 4 * k) net) want)) (λ c. holds net k n c && leb want.least (held n c want.ends)) n (λ x g. passes-holds net k room want n x) c a
-answers_holds net k room want n Nothing a = λ x g. sym (passes-holds net k room want n x) ∙ a x g
+answers_holds net k room want n None a = λ x g. sym (passes-holds net k room want n x) ∙ a x g
 
-pub answered_same : (p q : ℕ → Bool) (m : ℕ) → ((c : ℕ) → p c ≡ q c) → (f : ChoiceFound) → Answered p m f → Answered q m f
+pub answered_same : (p q : ℕ → Bool) (m : ℕ) → ((c : ℕ) → p c ≡ q c) → (f : Option ℕ) → Answered p m f → Answered q m f
 unfolding Answered
-answered_same p q m h (Choice c) a = first-same p q m (λ x g. h x) c a
-answered_same p q m h Nothing a = λ x g. sym (h x) ∙ a x g
+answered_same p q m h (Some c) a = first-same p q m (λ x g. h x) c a
+answered_same p q m h None a = λ x g. sym (h x) ∙ a x g
 
-pub found-on : (d : Board) (i n : ℕ) → n ≡ how_many d → (p : ℕ → Bool) → ((c : ℕ) → p c ≡ wanted d i c) → (f : ChoiceFound) → Answered p n f → Answered (wanted d i) (how_many d) f
+pub found-on : (d : Board) (i n : ℕ) → n ≡ how_many d → (p : ℕ → Bool) → ((c : ℕ) → p c ≡ wanted d i c) → (f : Option ℕ) → Answered p n f → Answered (wanted d i) (how_many d) f
 found-on d i n e p h f a = subst (λ (x : ℕ). Answered (wanted d i) x f) e (answered_same p (wanted d i) n h f a)
 
 -- ---- on a board
@@ -53,14 +52,14 @@ module _ (d : Board) (i : ℕ) (e : acceptable d 0 ≡ true) where
       by (good ks) s = never (wanted d i s.0) s.1.passes (h s.0 s.1.is_set)
 
   -- row 13
-  pub leaves_none : (f : ChoiceFound) → f ≡ Nothing → Answered (wanted d i) (how_many d) f → (w : ℕ) (out : List ℕ) → w ≡ packed 13 i 0 → Leaves (PickOn d i) w out out
+  pub leaves_none : (f : Option ℕ) → f ≡ None → Answered (wanted d i) (how_many d) f → (w : ℕ) (out : List ℕ) → w ≡ packed 13 i 0 → Leaves (PickOn d i) w out out
   unfolding Answered
   leaves_none f q a w out h =
       let n : (x : ℕ) → x < 2 ^ how_many d → wanted d i x ≡ false = rw q at a in
       record { answer = refused 13 i; allowed = (refl, refl, record { is-named = must_name n; none-wanted = n }); reply = (h, refl) }
 
 -- the first choice, and its ends' numbers
-pub leaves_choice : (d : Board) (i : ℕ) (f : ChoiceFound) (c n : ℕ) → f ≡ Choice c → n ≡ how_many d → Answered (wanted d i) (how_many d) f
+pub leaves_choice : (d : Board) (i : ℕ) (f : Option ℕ) (c n : ℕ) → f ≡ Some c → n ≡ how_many d → Answered (wanted d i) (how_many d) f
     → (w : ℕ) (out after : List ℕ) → Reply (in_room (length out) (good (numbers c n))) w out after → Leaves (PickOn d i) w out after
 unfolding Answered
 leaves_choice d i f c n q e a w out after h =

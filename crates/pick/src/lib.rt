@@ -11,14 +11,15 @@ ghost use Rattle.offers.specs.Struct.{Full};
 ghost use Rattle.ends_masks.specs.Seating.{EndsFull, Stands};
 ghost use Rattle.pick_bounds.specs.Net.{held};
 ghost use Rattle.pick_rules.specs.Rules.{most_rules, net_cells, holds};
+ghost use Rattle.wire.specs.Refusals.{word_of};
 ghost use Rattle.pick.specs.Picking.{Answered};
 ghost use Rattle.paper.specs.Limits.{limits};
 
 use ends_masks::Ends;
 use offers::Offers;
 use pick_bounds::Wanted;
-use pick_search::ChoiceFound;
 use table::Table;
+use wire::Refusal;
 
 // What the search is asked: a net of so many rules, and the ends that are wanted.
 #[derive(Clone, Copy)]
@@ -50,7 +51,7 @@ fn prepare(
 }
 
 // The first set of n ends that obeys the rules of a net and holds what is wanted.
-pub fn first(net: &[u32], asked: Question, n: usize) -> ChoiceFound
+pub fn first(net: &[u32], asked: Question, n: usize) -> Option<u32>
     requires { (n ≤ limits.most_ends) × (asked.rules ≤ most_rules) × (net_cells ≤ length net.now) }
     ensures { Answered (λ c. holds net.now asked.rules n c && leb asked.want.least (held n c asked.want.ends)) n result }
 {
@@ -65,7 +66,7 @@ pub fn choose(
     ends: Ends,
     kept: [u8; Table::MOST_NODES],
     node: u8,
-) -> ChoiceFound
+) -> Option<u32>
     requires { (table_read t.now ≡ good table) × Full offers × EndsFull ends × (length kept ≡ limits.most_nodes) }
     ensures { (d : Board) → Stands t.now d offers ends kept kept → Answered (wanted d node) (how_many d) result }
 {
@@ -100,13 +101,13 @@ pub fn states(
 }
 
 // What pick answers of n ends, where `found` is what was looked for: row 13, or a choice.
-fn conclude(found: ChoiceFound, n: usize, node: u8, out: &mut [u8]) -> u64
+fn conclude(found: Option<u32>, n: usize, node: u8, out: &mut [u8]) -> Result<usize, Refusal>
     requires { n ≤ limits.most_ends }
-    ensures { (d : Board) → n ≡ how_many d → Answered (wanted d node) (how_many d) found → acceptable d 0 ≡ true → Leaves (PickOn d node) result out.old out.new }
+    ensures { (d : Board) → n ≡ how_many d → Answered (wanted d node) (how_many d) found → acceptable d 0 ≡ true → Leaves (PickOn d node) (word_of result) out.old out.new }
 {
     match found {
-        ChoiceFound::Nothing => wire::pack(13, node, 0),
-        ChoiceFound::Choice(c) => choice::tell(c, n, out),
+        None => Err(Refusal::NoChoice(node)),
+        Some(c) => choice::tell(c, n, out),
     }
 }
 
@@ -119,9 +120,9 @@ pub fn pick(
     kept: [u8; Table::MOST_NODES],
     node: u8,
     out: &mut [u8],
-) -> u64
+) -> Result<usize, Refusal>
     requires { (table_read t.now ≡ good table) × Full offers × EndsFull ends × (length kept ≡ limits.most_nodes) }
-    ensures { (d : Board) → Stands t.now d offers ends kept kept → Leaves (PickOn d node) result out.old out.new }
+    ensures { (d : Board) → Stands t.now d offers ends kept kept → Leaves (PickOn d node) (word_of result) out.old out.new }
 {
     let found = choose(t, table, offers, ends, kept, node);
     conclude(found, ends.count, node, out)

@@ -225,9 +225,6 @@ module _ (net : List ℕ) (x : ℕ) where
     pub inside : (k : ℕ) → has left k ≡ true → has x k ≡ true
     pub done : (k : ℕ) → k < limits.most_ends → has x k ≡ true → has left k ≡ false → meets 32 x (at net k) ≡ false
 
-  pub parted-none : Parted x
-  parted-none = record { inside = λ k h. h; done = λ k l h i. never (has x k) h i }
-
   pub parted-more : (left k rest : ℕ) → Parted left → ltb k 20 && meets 32 x (at net k) ≡ false → Without left (2 ^ k) rest → Parted rest
   parted-more left k rest p f w = record {
     inside = λ j h. p.inside j (and-true (has left j) (not (has (2 ^ k) j)) (sym (w j) ∙ h)).0;

@@ -91,9 +91,6 @@ module _ (net : List ℕ) (want : Wanted) (m x : ℕ) where
   pub passes_broken : (i : ℕ) → i < size net → (r : Rule) → r ≡ rule_at net i → obeys m r x ≡ false → passes m (net_of net want) x ≡ false
   passes_broken i l r q h = false_if (passes m (net_of net want) x) (λ e. never (obeys m r x) (obeyed e i l r q) h)
 
-  pub passes-rivalled : (k : ℕ) → k < limits.most_ends → obeys m (rivals_at net k) x ≡ false → passes m (net_of net want) x ≡ false
-  passes-rivalled k l h = false_if (passes m (net_of net want) x) (λ e. never (obeys m (rivals_at net k) x) (rivals_obeyed e k l) h)
-
 -- ---- a larger width, for sets of m ends
 module _ (m r x : ℕ) (small : x < 2 ^ m) where
   meets_wider : (d : ℕ) → meets (m + r) x d ≡ meets m x d

@@ -43,7 +43,7 @@ pub const ALL: u32 = 32;
 pub fn held(c: u32, d: u32) -> u32
     ensures { result ≡ held 32 c d }
 {
-    u32::count_ones(c & d)
+    (c & d).count_ones()
 }
 
 // Whether an end is in both sets.
@@ -65,7 +65,7 @@ pub fn first_of(c: u32) -> usize
     requires { 1 ≤ c }
     ensures { (result < 32) × (has c result ≡ true) }
 {
-    u32::trailing_zeros(c) as usize
+    c.trailing_zeros() as usize
 }
 
 // Whether so many ends are in both sets. One is asked for most, and needs no count.
@@ -96,7 +96,7 @@ fn is_one(c: u32) -> bool
 // Bounds with nothing between them.
 fn none() -> Bounds {
     Bounds {
-        must: 4294967295,
+        must: u32::MAX,
         may: 0,
     }
 }
@@ -333,14 +333,11 @@ fn tighten(net: &[u32], want: Wanted, b: Bounds) -> Bounds
     ensures { Keeps (good net.now want) b result }
 {
     let mut low = spread(net, b.must, ask(want, b));
-    let n = size(net);
-    let mut i: usize = 0;
-    while i < n {
+    for i in 0..size(net) {
         if is_dead(low) {
             return low;
         }
         low = spread(net, low.must, draw(want, rule_at(net, i), low));
-        i += 1;
     }
     low
 }
@@ -349,7 +346,7 @@ fn tighten(net: &[u32], want: Wanted, b: Bounds) -> Bounds
 fn slack(b: Bounds) -> u64
     ensures { result ≡ b.may + (4294967295 - b.must) }
 {
-    (b.may as u64) + (4294967295 - (b.must as u64))
+    b.may as u64 + (u32::MAX - b.must) as u64
 }
 
 // Until nothing changes.
@@ -406,13 +403,10 @@ pub fn passes(net: &[u32], want: Wanted, c: u32) -> bool
     if !is_apart(net, c) {
         return false;
     }
-    let n = size(net);
-    let mut i: usize = 0;
-    while i < n {
+    for i in 0..size(net) {
         if !obeys(rule_at(net, i), c) {
             return false;
         }
-        i += 1;
     }
     true
 }

@@ -3,14 +3,14 @@ use mathlib.Core.Path.{◌≡◌, sym, ap, ◌∙◌}
 use mathlib.Core.Logic.{⊎_elim}
 use mathlib.Core.Bool.{Bool, true, false, not, ◌&&◌, ◌||◌}
 use mathlib.Core.List.{List}
-use Prim.Native.Nat.{ℕ, ◌+◌, ◌-◌, ◌*◌, ◌≤◌, ◌<◌}
-use native.Mathlib.Decide.{dec_lt}
+use Prim.Native.Nat.{ℕ, ◌+◌, ◌-◌, ◌≤◌, ◌<◌}
 use native.Mathlib.Omega.{arith}
-use lib.ListN.{length, set, length-set}
-use lib.Seq.{get_or-set_same, get_or-set_other}
+use lib.ListN.{length, take, set}
+use Rattle.std.proofs.lemmas.List.{take_more_set}
+use Rattle.std.proofs.lemmas.List.Elements.{All-push}
 use lib.Bits.{bit_and, bit_or}
 use borrow.Author.Tests.{leb-true, not-true}
-use Rattle.paper.specs.Lists.{at, has}
+use Rattle.paper.specs.Lists.{has}
 use Rattle.paper.proofs.Bools.{never, and-true, and_both, or-true, or_left, or_right, true_or_false, false_if}
 use Rattle.paper.proofs.Digits.{has-zero}
 use Rattle.pick_bounds.specs.declared.Bounds.{Bounds}
@@ -114,28 +114,10 @@ pub obeying : (net : List ℕ) (want : Wanted) (i : ℕ) → i < size net → (r
 obeying net want i l r q = λ x e. obeyed net want 32 x e i l r q
 
 -- ---- the list
-module _ (list : List ℕ) (count ends least : ℕ) (room : 2 * count + 1 < length list) where
-  abbrev one : List ℕ
-  one = set list (2 * count) ends
-
-  abbrev both : List ℕ
-  both = set one (2 * count + 1) least
-
-  old : (j : ℕ) → j < 2 * count → at both j ≡ at list j
-  old j l = get_or-set_other one (2 * count + 1) j least 0 (omega arith) ∙ get_or-set_other list (2 * count) j ends 0 (omega arith)
-
-  first : at both (2 * count) ≡ ends
-  first = get_or-set_other one (2 * count + 1) (2 * count) least 0 (omega arith) ∙ get_or-set_same list (2 * count) ends 0 (omega arith)
-
-  second : at both (2 * count + 1) ≡ least
-  second = get_or-set_same one (2 * count + 1) least 0 (let e = length-set list (2 * count) ends in omega arith)
-
-  pub listed_more : (p : ℕ → Bool) (b : Bounds) → DemandsListed p b list count → Asks p b ends least → DemandsListed p b both (count + 1)
-  listed_more p b f g i h x e w =
-      elim (dec_lt i count) [
-        | yes j ↦ rw (old (2 * i) (omega arith), old (2 * i + 1) (omega arith)) (f i j x e w)
-        | no j ↦ let z : i ≡ count = omega arith in rw (z, first, second) (g x e w)
-      ]
+pub listed_more : (p : ℕ → Bool) (b : Bounds) (list : List Wanted) (count : ℕ) (d : Wanted) → count < length list
+    → DemandsListed p b (take count list) → Asks p b d.ends d.least → DemandsListed p b (take (count + 1) (set list count d))
+listed_more p b list count d l f g =
+    rw (take_more_set list count d l) (All-push (λ (e : Wanted). Asks p b e.ends e.least) (take count list) d f g)
 
 -- a demand that has too few ends elsewhere
 pub forced : (ends least when rest : ℕ) → Without ends when rest → held 32 rest rest < least → (x : ℕ) → least ≤ held 32 x ends → meets 32 x when ≡ true
@@ -147,19 +129,16 @@ forced ends least when rest w few x l =
     absurd (omega arith))
     (true_or_false (meets 32 x when))
 
-pub rouses_one : (list : List ℕ) (count when i : ℕ) → i < count → ((x : ℕ) → at list (2 * i + 1) ≤ held 32 x (at list (2 * i)) → meets 32 x when ≡ true) → Rouses list count when
-rouses_one list count when i l f = λ x g. f x (g i l)
+module _ (p : ℕ → Bool) (rule : Rule) (b : Bounds) (list : List Wanted) (all-obey : Obeying p rule) where
+  roused : DemandsListed p b list → Rouses list rule.when → (x : ℕ) → p x ≡ true → Between b x → meets 32 x rule.when ≡ true
+  roused f g x e w = g x (λ i d l. f i d l x e w)
 
-module _ (p : ℕ → Bool) (rule : Rule) (b : Bounds) (list : List ℕ) (count : ℕ) (all-obey : Obeying p rule) where
-  roused : DemandsListed p b list count → Rouses list count rule.when → (x : ℕ) → p x ≡ true → Between b x → meets 32 x rule.when ≡ true
-  roused f g x e w = g x (λ i l. f i l x e w)
-
-  pub asks_roused : (r free : ℕ) → DemandsListed p b list count → Rouses list count rule.when → Lacks b rule.only rule.lo r → Without b.may b.must free
+  pub asks_roused : (r free : ℕ) → DemandsListed p b list → Rouses list rule.when → Lacks b rule.only rule.lo r → Without b.may b.must free
       → Asks p b (bit_and free rule.only) r
   asks_roused r free f g h w = λ x e z. h free x w z (rule-asks rule x (all-obey x e) (roused f g x e z))
 
   -- ---- what bounds from above
-  pub caps_roused : DemandsListed p b list count → Rouses list count rule.when → Caps p b rule.only rule.hi
+  pub caps_roused : DemandsListed p b list → Rouses list rule.when → Caps p b rule.only rule.hi
   caps_roused f g = λ x e w. rule_caps rule x (all-obey x e) (roused f g x e w)
 
   pub caps_taken : meets 32 b.must rule.when ≡ true → Caps p b rule.only rule.hi

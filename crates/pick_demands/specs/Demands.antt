@@ -1,8 +1,10 @@
 -- Demands on the ends that are open between bounds, a list of them, and what ends go together. Assumes nothing.
-use Rattle.std.specs.Prelude.{ℕ, ◌+◌, ◌*◌, ◌≤◌, ◌<◌, ◌≡◌, Bool, true, false, List}
-use Rattle.paper.specs.Lists.{at, has}
+use Rattle.std.specs.Prelude.{ℕ, ◌≤◌, ◌<◌, ◌≡◌, Bool, true, false, List}
+use Rattle.std.specs.List.{All}
+use Rattle.paper.specs.Lists.{has}
 use Rattle.pick_bounds.specs.declared.Bounds.{Bounds}
 use Rattle.pick_bounds.specs.declared.Rule.{Rule}
+use Rattle.pick_bounds.specs.declared.Wanted.{Wanted}
 use Rattle.pick_bounds.specs.Net.{held, meets, obeys}
 use Rattle.pick_bounds.specs.Bounds.{Between}
 use Rattle.pick_demands.specs.declared.Group.{Group}
@@ -14,13 +16,13 @@ Asks passing b ends least = (x : ℕ) → passing x ≡ true → Between b x →
 abbrev pub Caps : (ℕ → Bool) → Bounds → ℕ → ℕ → Type 0
 Caps passing b ends most = (x : ℕ) → passing x ≡ true → Between b x → held 32 x ends ≤ most
 
--- the first demands of a list, two cells each, are asked of every such set
-abbrev pub DemandsListed : (ℕ → Bool) → Bounds → List ℕ → ℕ → Type 0
-DemandsListed passing b list count = (i : ℕ) → i < count → Asks passing b (at list (2 * i)) (at list (2 * i + 1))
+-- the demands of a list are asked of every such set
+abbrev pub DemandsListed : (ℕ → Bool) → Bounds → List Wanted → Type 0
+DemandsListed passing b list = All (λ d. Asks passing b d.ends d.least) list
 
 -- a set that meets all demands of the list meets these ends
-abbrev pub Rouses : List ℕ → ℕ → ℕ → Type 0
-Rouses list count when = (x : ℕ) → ((i : ℕ) → i < count → at list (2 * i + 1) ≤ held 32 x (at list (2 * i))) → meets 32 x when ≡ true
+abbrev pub Rouses : List Wanted → ℕ → Type 0
+Rouses list when = (x : ℕ) → All (λ d. d.least ≤ held 32 x d.ends) list → meets 32 x when ≡ true
 
 -- every set that passes obeys a rule
 abbrev pub Obeying : (ℕ → Bool) → Rule → Type 0

@@ -2,7 +2,7 @@
 // has room for. 'Hopeless' is sure; that it isn't said where nothing is left is no promise. Assumes no more than its `requires`.
 #![tactic(auto)]
 
-ghost use Rattle.std.specs.Prelude.{◌≡◌, Bool, true, ℕ, ◌≤◌, ◌<◌, length};
+ghost use Rattle.std.specs.Prelude.{◌≡◌, Bool, true, None, ℕ, ◌≤◌, ◌<◌, length, take};
 ghost use Rattle.std.specs.Int.Bits.{bit_and};
 ghost use Rattle.paper.specs.Lists.{has};
 ghost use Rattle.pick_bounds.specs.Net.{meets, held};
@@ -26,20 +26,11 @@ struct Room {
     most: u32,
 }
 
-// What is seen between bounds: whether nothing is left there, and open ends of which so many are lacked, to be tried next. The ends are a hint.
-#[derive(Clone, Copy)]
-pub struct View {
-    pub hopeless: bool,
-    pub next: Wanted,
-}
-
-// So many demands are listed at most, each in two cells: open ends, and how many of them are lacked.
+// A demand is of so many of some open ends. So many are listed at most.
 const MOST: usize = 12;
 
-const CELLS: usize = 24;
-
-// Any end.
-const EVERY: u32 = 4294967295;
+// A demand of nothing.
+const NOTHING: Wanted = Wanted { ends: 0, least: 0 };
 
 // ---- rivals
 
@@ -83,13 +74,11 @@ fn crowd(net: &[u32], ends: u32) -> u32
     ensures { (want : Wanted) → Most (good net.now want) ends result }
 {
     let mut left = ends;
-    let mut most: u32 = 0;
-    while most < 20 {
+    for most in 0..20 {
         if left == 0 {
             return most;
         }
         left = pick_bounds::without(left, huddle(net, left));
-        most += 1;
     }
     32
 }
@@ -124,67 +113,60 @@ fn lack(want: Wanted, rule: Rule, b: Bounds) -> u32
 }
 
 // One demand more on the list, if it is one and there is room.
-fn note(list: &mut [u32], count: usize, ends: u32, least: u32) -> usize
-    requires { (count ≤ 12) × (24 ≤ length list.old) }
-    ensures { (result ≤ 12) × ((passing : ℕ → Bool) (b : Bounds) → DemandsListed passing b list.old count → Asks passing b ends least → DemandsListed passing b list.new result) }
+fn note(list: &mut [Wanted], count: usize, d: Wanted) -> usize
+    requires { count ≤ length list.old }
+    ensures { (result ≤ length list.new) × ((passing : ℕ → Bool) (b : Bounds) → DemandsListed passing b (take count list.old) → Asks passing b d.ends d.least → DemandsListed passing b (take result list.new)) }
 {
-    if least == 0 {
+    if d.least == 0 || list.len() <= count {
         return count;
     }
-    if MOST <= count {
-        return count;
-    }
-    list[2 * count] = ends;
-    list[2 * count + 1] = least;
+    list[count] = d;
     count + 1
 }
 
 // ---- the list
 
 // What the rules that are set off lack.
-fn list_direct(net: &[u32], want: Wanted, b: Bounds, list: &mut [u32]) -> usize
-    requires { (limits.most_ends ≤ length net.now) × (24 ≤ length list.old) }
-    ensures { (result ≤ 12) × DemandsListed (good net.now want) b list.new result }
+fn list_direct(net: &[u32], want: Wanted, b: Bounds, list: &mut [Wanted]) -> usize
+    requires { limits.most_ends ≤ length net.now }
+    ensures { (result ≤ length list.new) × DemandsListed (good net.now want) b (take result list.new) }
 {
     let open = pick_bounds::without(b.may, b.must);
-    let n = pick_bounds::size(net);
-    let mut count: usize = 0;
-    let mut i: usize = 0;
-    while i < n {
+    let mut count = 0;
+    for i in 0..pick_bounds::size(net) {
         let rule = pick_bounds::rule_at(net, i);
-        count = note(list, count, open & rule.only, lack(want, rule, b));
-        i += 1;
+        let d = Wanted {
+            ends: open & rule.only,
+            least: lack(want, rule, b),
+        };
+        count = note(list, count, d);
     }
     count
 }
 
 // Whether a demand can't be met but by one of these ends: fewer of its own are elsewhere.
-fn forces(ends: u32, least: u32, when: u32) -> bool
-    ensures { result ≡ true → (x : ℕ) → least ≤ held 32 x ends → meets 32 x when ≡ true }
+fn forces(d: Wanted, when: u32) -> bool
+    ensures { result ≡ true → (x : ℕ) → d.least ≤ held 32 x d.ends → meets 32 x when ≡ true }
 {
-    let rest = pick_bounds::without(ends, when);
-    !pick_bounds::has_least(rest, rest, least)
+    let rest = pick_bounds::without(d.ends, when);
+    !pick_bounds::has_least(rest, rest, d.least)
 }
 
 // Whether some demand of the list can't be met but by one of these ends.
-fn rouses(list: &[u32], count: usize, when: u32) -> bool
-    requires { (count ≤ 12) × (24 ≤ length list.now) }
-    ensures { result ≡ true → Rouses list.now count when }
+fn rouses(list: &[Wanted], when: u32) -> bool
+    ensures { result ≡ true → Rouses list.now when }
 {
-    let mut i: usize = 0;
-    while i < count {
-        if forces(list[2 * i], list[2 * i + 1], when) {
+    for d in list {
+        if forces(*d, when) {
             return true;
         }
-        i += 1;
     }
     false
 }
 
 // How many open ends of a rule are lacked that the list sets off.
-fn lack_roused(rule: Rule, b: Bounds, list: &[u32], count: usize) -> u32
-    requires { (count ≤ 12) × (24 ≤ length list.now) }
-    ensures { (passing : ℕ → Bool) (free : ℕ) → Obeying passing rule → DemandsListed passing b list.now count → Without b.may b.must free → Asks passing b (bit_and free rule.only) result }
+fn lack_roused(rule: Rule, b: Bounds, list: &[Wanted]) -> u32
+    ensures { (passing : ℕ → Bool) (free : ℕ) → Obeying passing rule → DemandsListed passing b list.now → Without b.may b.must free → Asks passing b (bit_and free rule.only) result }
 {
     if pick_bounds::has_least(b.must, rule.only, rule.lo) {
         return 0;
@@ -193,99 +175,95 @@ fn lack_roused(rule: Rule, b: Bounds, list: &[u32], count: usize) -> u32
     if pick_bounds::meets(b.must, rule.when) {
         return 0;
     }
-    if !rouses(list, count, rule.when) {
+    if !rouses(list, rule.when) {
         return 0;
     }
     lacked(rule.only, rule.lo, b)
 }
 
 // What the rules that the list sets off lack, from the last rule to the first: inner forks stand before outer ones, and the outer set off the inner.
-fn list_roused(net: &[u32], b: Bounds, list: &mut [u32], from: usize) -> usize
-    requires { (limits.most_ends ≤ length net.now) × (24 ≤ length list.old) × (from ≤ 12) }
-    ensures { (result ≤ 12) × ((want : Wanted) → DemandsListed (good net.now want) b list.old from → DemandsListed (good net.now want) b list.new result) }
+fn list_roused(net: &[u32], b: Bounds, list: &mut [Wanted], from: usize) -> usize
+    requires { (limits.most_ends ≤ length net.now) × (from ≤ length list.old) }
+    ensures { (result ≤ length list.new) × ((want : Wanted) → DemandsListed (good net.now want) b (take from list.old) → DemandsListed (good net.now want) b (take result list.new)) }
 {
     let open = pick_bounds::without(b.may, b.must);
     let mut count = from;
-    let mut i = pick_bounds::size(net);
-    while 0 < i {
-        i -= 1;
+    for i in (0..pick_bounds::size(net)).rev() {
         let rule = pick_bounds::rule_at(net, i);
-        let more = lack_roused(rule, b, list, count);
-        count = note(list, count, open & rule.only, more);
+        let d = Wanted {
+            ends: open & rule.only,
+            least: lack_roused(rule, b, &list[..count]),
+        };
+        count = note(list, count, d);
     }
     count
 }
 
 // All that is asked of the open ends.
-fn list_all(net: &[u32], want: Wanted, b: Bounds, list: &mut [u32]) -> usize
-    requires { (limits.most_ends ≤ length net.now) × (24 ≤ length list.old) }
-    ensures { (result ≤ 12) × DemandsListed (good net.now want) b list.new result }
+fn list_all(net: &[u32], want: Wanted, b: Bounds, list: &mut [Wanted]) -> usize
+    requires { limits.most_ends ≤ length net.now }
+    ensures { (result ≤ length list.new) × DemandsListed (good net.now want) b (take result list.new) }
 {
     let direct = list_direct(net, want, b, list);
     let open = pick_bounds::without(b.may, b.must);
-    let count = note(
-        list,
-        direct,
-        open & want.ends,
-        lacked(want.ends, want.least, b),
-    );
+    let d = Wanted {
+        ends: open & want.ends,
+        least: lacked(want.ends, want.least, b),
+    };
+    let count = note(list, direct, d);
     list_roused(net, b, list, count)
 }
 
 // ---- more than can be had
 
 // Two demands as one, if no end is in both.
-fn plus(all: Wanted, ends: u32, least: u32) -> Wanted
-    ensures { ((passing : ℕ → Bool) (b : Bounds) → Asks passing b all.ends all.least → Asks passing b ends least → Asks passing b result.ends result.least) × ((of : ℕ) → Part all.ends of → Part ends of → Part result.ends of) }
+fn plus(all: Wanted, d: Wanted) -> Wanted
+    ensures { ((passing : ℕ → Bool) (b : Bounds) → Asks passing b all.ends all.least → Asks passing b d.ends d.least → Asks passing b result.ends result.least) × ((of : ℕ) → Part all.ends of → Part d.ends of → Part result.ends of) }
 {
-    if pick_bounds::meets(all.ends, ends) {
+    if pick_bounds::meets(all.ends, d.ends) {
         return all;
     }
     // no more ends are to be had
-    if 32 < all.least || 32 < least {
+    if 32 < all.least || 32 < d.least {
         return all;
     }
     Wanted {
-        ends: all.ends | ends,
-        least: all.least + least,
+        ends: all.ends | d.ends,
+        least: all.least + d.least,
     }
 }
 
 // A demand's share of these ends: what is left of it, if all of its others are taken.
-fn share(ends: u32, least: u32, of: u32) -> Wanted
-    ensures { ((passing : ℕ → Bool) (b : Bounds) → Asks passing b ends least → Asks passing b result.ends result.least) × Part result.ends of }
+fn share(d: Wanted, of: u32) -> Wanted
+    ensures { ((passing : ℕ → Bool) (b : Bounds) → Asks passing b d.ends d.least → Asks passing b result.ends result.least) × Part result.ends of }
 {
-    let rest = pick_bounds::without(ends, of);
-    if pick_bounds::has_least(rest, rest, least) {
-        return Wanted { ends: 0, least: 0 };
+    let rest = pick_bounds::without(d.ends, of);
+    if pick_bounds::has_least(rest, rest, d.least) {
+        return NOTHING;
     }
     Wanted {
-        ends: ends & of,
-        least: least - pick_bounds::held(rest, rest),
+        ends: d.ends & of,
+        least: d.least - pick_bounds::held(rest, rest),
     }
 }
 
 // What is asked for of these ends in all, the last demands first: those of pins come after those of forks.
-fn asked_of(list: &[u32], count: usize, of: u32) -> Wanted
-    requires { (count ≤ 12) × (24 ≤ length list.now) }
-    ensures { ((passing : ℕ → Bool) (b : Bounds) → DemandsListed passing b list.now count → Asks passing b result.ends result.least) × Part result.ends of }
+fn asked_of(list: &[Wanted], of: u32) -> Wanted
+    ensures { ((passing : ℕ → Bool) (b : Bounds) → DemandsListed passing b list.now → Asks passing b result.ends result.least) × Part result.ends of }
 {
-    let mut all = Wanted { ends: 0, least: 0 };
-    let mut i = count;
-    while 0 < i {
-        i -= 1;
-        let part = share(list[2 * i], list[2 * i + 1], of);
-        all = plus(all, part.ends, part.least);
+    let mut all = NOTHING;
+    for i in (0..list.len()).rev() {
+        all = plus(all, share(list[i], of));
     }
     all
 }
 
 // More is asked for than goes together.
-fn is_crowded(net: &[u32], list: &[u32], count: usize) -> bool
-    requires { (limits.most_ends ≤ length net.now) × (count ≤ 12) × (24 ≤ length list.now) }
-    ensures { result ≡ true → (want : Wanted) (b : Bounds) → DemandsListed (good net.now want) b list.now count → NoneIn (good net.now want) b }
+fn is_crowded(net: &[u32], list: &[Wanted]) -> bool
+    requires { limits.most_ends ≤ length net.now }
+    ensures { result ≡ true → (want : Wanted) (b : Bounds) → DemandsListed (good net.now want) b list.now → NoneIn (good net.now want) b }
 {
-    let all = asked_of(list, count, EVERY);
+    let all = asked_of(list, u32::MAX);
     // one end goes together with itself
     if all.least <= 1 {
         return false;
@@ -294,9 +272,8 @@ fn is_crowded(net: &[u32], list: &[u32], count: usize) -> bool
 }
 
 // More is asked for of these ends than so many.
-fn is_over(list: &[u32], count: usize, ends: u32, most: u32, b: Bounds) -> bool
-    requires { (count ≤ 12) × (24 ≤ length list.now) }
-    ensures { result ≡ true → (passing : ℕ → Bool) → DemandsListed passing b list.now count → Caps passing b ends most → NoneIn passing b }
+fn is_over(list: &[Wanted], ends: u32, most: u32, b: Bounds) -> bool
+    ensures { result ≡ true → (passing : ℕ → Bool) → DemandsListed passing b list.now → Caps passing b ends most → NoneIn passing b }
 {
     let may = pick_bounds::held(b.may, ends);
     if may <= most {
@@ -306,14 +283,13 @@ fn is_over(list: &[u32], count: usize, ends: u32, most: u32, b: Bounds) -> bool
     if most < must {
         return true;
     }
-    let asked = asked_of(list, count, pick_bounds::without(ends, b.must));
+    let asked = asked_of(list, pick_bounds::without(ends, b.must));
     most - must < asked.least
 }
 
 // Whether a rule bounds every set between the bounds from above: it does where its own ends set it off, or it is set off.
-fn is_cap(rule: Rule, b: Bounds, list: &[u32], count: usize) -> bool
-    requires { (count ≤ 12) × (24 ≤ length list.now) }
-    ensures { result ≡ true → (passing : ℕ → Bool) → Obeying passing rule → DemandsListed passing b list.now count → Caps passing b rule.only rule.hi }
+fn is_cap(rule: Rule, b: Bounds, list: &[Wanted]) -> bool
+    ensures { result ≡ true → (passing : ℕ → Bool) → Obeying passing rule → DemandsListed passing b list.now → Caps passing b rule.only rule.hi }
 {
     if pick_bounds::ALL <= rule.hi {
         return false;
@@ -324,7 +300,7 @@ fn is_cap(rule: Rule, b: Bounds, list: &[u32], count: usize) -> bool
     if pick_bounds::meets(b.must, rule.when) {
         return true;
     }
-    rouses(list, count, rule.when)
+    rouses(list, rule.when)
 }
 
 // Two caps as one, if no end is in both.
@@ -345,31 +321,28 @@ fn both_caps(all: Room, rule: Rule) -> Room
 }
 
 // More is asked for than some rule has room for, or than all rules have that bound different ends.
-fn is_overdrawn(net: &[u32], b: Bounds, list: &[u32], count: usize) -> bool
-    requires { (limits.most_ends ≤ length net.now) × (count ≤ 12) × (24 ≤ length list.now) }
-    ensures { result ≡ true → (want : Wanted) → DemandsListed (good net.now want) b list.now count → NoneIn (good net.now want) b }
+fn is_overdrawn(net: &[u32], b: Bounds, list: &[Wanted]) -> bool
+    requires { limits.most_ends ≤ length net.now }
+    ensures { result ≡ true → (want : Wanted) → DemandsListed (good net.now want) b list.now → NoneIn (good net.now want) b }
 {
     let mut all = Room { ends: 0, most: 0 };
-    let n = pick_bounds::size(net);
-    let mut i: usize = 0;
-    while i < n {
+    for i in 0..pick_bounds::size(net) {
         let rule = pick_bounds::rule_at(net, i);
-        if is_cap(rule, b, list, count) {
-            if is_over(list, count, rule.only, rule.hi, b) {
+        if is_cap(rule, b, list) {
+            if is_over(list, rule.only, rule.hi, b) {
                 return true;
             }
             all = both_caps(all, rule);
         }
-        i += 1;
     }
-    is_over(list, count, all.ends, all.most, b)
+    is_over(list, all.ends, all.most, b)
 }
 
 // ---- what to try next: hints, on which nothing relies
 
 // How easily a demand is met: by the ends that it has to spare, and of as many by how few it asks for; one with an end to blame comes before all others.
 fn ease(d: Wanted, blame: u32) -> u32 {
-    let many = u32::count_ones(d.ends);
+    let many = d.ends.count_ones();
     if many < d.least {
         return 0;
     }
@@ -391,42 +364,26 @@ fn harder(c: Wanted, d: Wanted, blame: u32) -> Wanted {
     d
 }
 
-// The hardest demand; none, if none is listed.
-fn hardest(list: &[u32], count: usize, blame: u32) -> Wanted
-    requires { (count ≤ 12) × (24 ≤ length list.now) }
-{
-    let mut hard = Wanted { ends: 0, least: 0 };
-    let mut i: usize = 0;
-    while i < count {
-        hard = harder(
-            hard,
-            Wanted {
-                ends: list[2 * i],
-                least: list[2 * i + 1],
-            },
-            blame,
-        );
-        i += 1;
+// The hardest demand; one of nothing, if none is listed.
+fn hardest(list: &[Wanted], blame: u32) -> Wanted {
+    let mut hard = NOTHING;
+    for d in list {
+        hard = harder(hard, *d, blame);
     }
     hard
 }
 
-// What is seen between settled bounds, where `blame` has ends that could not be had before.
-pub fn look(net: &[u32], want: Wanted, blame: u32, b: Bounds) -> View
+// What to try next between settled bounds: open ends of which so many are lacked, a hint; `None` where nothing is left. `blame` has ends that could not be had
+// before.
+pub fn look(net: &[u32], want: Wanted, blame: u32, b: Bounds) -> Option<Wanted>
     requires { limits.most_ends ≤ length net.now }
-    ensures { result.hopeless ≡ true → NoneIn (good net.now want) b }
+    ensures { result ≡ None → NoneIn (good net.now want) b }
 {
-    let mut list = [0u32; CELLS];
-    let count = list_all(net, want, b, &mut list);
-    let next = hardest(&list, count, blame);
-    if is_crowded(net, &list, count) {
-        return View {
-            hopeless: true,
-            next: next,
-        };
+    let mut room = [NOTHING; MOST];
+    let count = list_all(net, want, b, &mut room);
+    let list = &room[..count];
+    if is_crowded(net, list) || is_overdrawn(net, b, list) {
+        return None;
     }
-    View {
-        hopeless: is_overdrawn(net, b, &list, count),
-        next: next,
-    }
+    Some(hardest(list, blame))
 }

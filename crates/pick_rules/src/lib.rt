@@ -104,10 +104,8 @@ pub fn fill_rivals(net: &mut [u32], foes: &[u64], makers: &[u64], n: usize)
     requires { (net_cells ≤ length net.old) × (n ≤ length foes.now) × (n ≤ length makers.now) × (n ≤ limits.most_ends) }
     ensures { Starts net.new n (on_each (clash_kept foes.now makers.now n) (below n) ∷ []) }
 {
-    let mut k: usize = 0;
-    while k < n {
+    for k in 0..n {
         net[k] = ends_masks::rivals(foes, makers, n, k);
-        k += 1;
     }
 }
 
@@ -162,9 +160,7 @@ pub fn add_forks(
     let makers = ends.makers;
     let rows = offers.count;
     let mut r = count;
-    let mut z = rows;
-    while 0 < z {
-        z -= 1;
+    for z in (0..rows).rev() {
         let new = fork_rule(t, table, &node, &parents, &makers, rows, ends.count, z);
         r = add(net, r, new);
     }
@@ -206,6 +202,7 @@ fn edge_rule(
     }
 }
 
+// kept: beside `add_targets`, since the rules ask other columns and promise for all that the columns leave open; a closure would have to promise that.
 fn add_edges(
     net: &mut [u32],
     count: usize,
@@ -221,11 +218,9 @@ fn add_edges(
     ensures { (result ≤ count + n) × ((target home : List ℕ) → Masks table edge.now target home n by_edge.now by_target.now by_home.now → AddedUpto net.old count net.new result n (edge_row t.now edge.now target home n) n) }
 {
     let mut r = count;
-    let mut k: usize = 0;
-    while k < n {
+    for k in 0..n {
         let new = edge_rule(t, table, edge, by_edge, by_target, by_home, k);
         r = add(net, r, new);
-        k += 1;
     }
     r
 }
@@ -252,6 +247,7 @@ fn barred_at_edge(
     owned(by_target, by_home, i)
 }
 
+// kept: beside `barred_at_nodes`, for the same reason.
 fn barred_at_edges(
     t: &[u8],
     table: Table,
@@ -262,12 +258,9 @@ fn barred_at_edges(
     requires { (table_read t.now ≡ good table) × (table.edges ≤ length by_edge.now) × (table.nodes ≤ length by_target.now) × (table.nodes ≤ length by_home.now) }
     ensures { (edge target home : List ℕ) (n : ℕ) → Masks table edge target home n by_edge.now by_target.now by_home.now → BarredEnds n result (on_each (edge_bar t.now edge target home n) (below table.edges)) }
 {
-    let most = table.edges;
     let mut w: u32 = 0;
-    let mut e: usize = 0;
-    while e < most {
-        w = w | barred_at_edge(t, table, by_edge, by_target, by_home, e);
-        e += 1;
+    for e in 0..table.edges {
+        w |= barred_at_edge(t, table, by_edge, by_target, by_home, e);
     }
     w
 }
@@ -340,11 +333,9 @@ fn add_targets(
     ensures { (result ≤ count + n) × ((byEdge edge home runs : List ℕ) → Masks table edge target.now home n byEdge by_target.now by_home.now → AddedUpto net.old count net.new result n (target_row t.now target.now home runs stock.now n) n) }
 {
     let mut r = count;
-    let mut k: usize = 0;
-    while k < n {
+    for k in 0..n {
         let new = target_rule(t, table, target, by_target, by_home, stock, k);
         r = add(net, r, new);
-        k += 1;
     }
     r
 }
@@ -384,12 +375,9 @@ fn barred_at_nodes(t: &[u8], table: Table, by_target: &[u32], by_home: &[u32], r
     requires { (table_read t.now ≡ good table) × (table.nodes ≤ length by_target.now) × (table.nodes ≤ length by_home.now) × (table.nodes ≤ length runs.now) }
     ensures { (byEdge edge target home stock : List ℕ) (n : ℕ) → Masks table edge target home n byEdge by_target.now by_home.now → BarredEnds n result (on_each (node_bar t.now target home runs.now stock n) (below table.nodes)) }
 {
-    let most = table.nodes;
     let mut w: u32 = 0;
-    let mut i: usize = 0;
-    while i < most {
-        w = w | barred_at_node(t, table, by_target, by_home, runs, i);
-        i += 1;
+    for i in 0..table.nodes {
+        w |= barred_at_node(t, table, by_target, by_home, runs, i);
     }
     w
 }

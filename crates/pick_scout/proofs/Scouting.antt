@@ -1,6 +1,6 @@
 -- Laws of scouting. Assumes nothing.
-use mathlib.Core.Path.{◌≡◌, sym, ap, ◌∙◌}
-use mathlib.Core.Bool.{Bool, true, not}
+use mathlib.Core.Path.{◌≡◌, refl, sym, ap, ◌∙◌}
+use mathlib.Core.Bool.{Bool, true, false, not}
 use mathlib.Core.Logic.{⊎_elim}
 use mathlib.Core.Option.{none, some}
 use Prim.Native.Nat.{ℕ, suc, ◌+◌, ◌-◌, ◌^◌, ◌≤◌, ◌<◌}
@@ -8,7 +8,7 @@ use native.Mathlib.Nat.{pow-suc}
 use native.Mathlib.Omega.{arith}
 use lib.Pow.{pow_mono, pow_pos}
 use lib.Bits.{bit_or}
-use Rattle.paper.proofs.Bools.{or-true}
+use Rattle.paper.proofs.Bools.{never, or-true}
 use Rattle.paper.specs.Lists.{has}
 use Rattle.paper.specs.Limits.{limits}
 use Rattle.pick_bounds.specs.declared.Bounds.{Bounds}
@@ -18,8 +18,9 @@ use Rattle.pick_bounds.proofs.Pruning.{none_after, unmeeting}
 use Rattle.pick_bounds.proofs.Sets.{has_or, has_power_other}
 use Rattle.pick_twins.specs.Twins.{Lacking}
 use Rattle.pick_scout.specs.declared.Visit.{Visit}
-use Rattle.pick_scout.specs.declared.Visit.TheVariants.{Choice, Nothing}
-use Rattle.pick_scout.specs.Scouting.{said, seen, Scouted}
+use Rattle.pick_scout.specs.Scouting.{chosen, said, seen, at_once, Scouted}
+use Rattle.std.specs.Prelude.{Result, Ok, Err}
+use Rattle.std.specs.Result.{is_ok}
 
 -- ---- numbers of states
 pub two-more : (l : ℕ) → 1 < 2 ^ (l + 1)
@@ -35,12 +36,21 @@ few_states l m h k = let e : l + 1 ≤ 21 = omega arith in pow_mono e
 not-sure : (c : ℕ) → some c ≡ none → ⊥
 not-sure c e = let q : ◌≡◌ {A = ℕ} 0 1 = cc in omega arith
 
+-- what the tests of a find say
+pub found-one : (r : Result ℕ ℕ) → is_ok r ≡ true → chosen r ≡ none → ⊥
+found-one (Ok c) t e = not-sure c e
+found-one (Err c) t e = never false t refl
+
+pub found-none : (r : Result ℕ ℕ) → is_ok r ≡ false → chosen r ≡ none
+found-none (Ok c) t = never true refl t
+found-none (Err c) t = refl
+
 -- some set may be there
-pub scouts_alive : (w : ℕ → Bool) (l : ℕ) (b : Bounds) (c : ℕ) → Scouted w l b (Choice c 1)
+pub scouts_alive : (w : ℕ → Bool) (l : ℕ) (b : Bounds) (c : ℕ) → Scouted w l b (at_once (Ok c))
 scouts_alive w l b c = record { sure = λ e. absurd (not-sure c e); some-seen = omega arith; most_seen = two-more l }
 
 -- nothing is there
-pub scouts_dead : (w : ℕ → Bool) (l : ℕ) (b : Bounds) (c : ℕ) → NoneIn w b → Scouted w l b (Nothing c 1)
+pub scouts_dead : (w : ℕ → Bool) (l : ℕ) (b : Bounds) (c : ℕ) → NoneIn w b → Scouted w l b (at_once (Err c))
 scouts_dead w l b c h = record { sure = λ e. h; some-seen = omega arith; most_seen = two-more l }
 
 -- ---- ends that can't be had
@@ -61,11 +71,10 @@ module _ (w : ℕ → Bool) (b : Bounds) where
 
 -- ---- a scout's two ways
 module _ (w : ℕ → Bool) (l : ℕ) (b : Bounds) (some_left : 1 ≤ l) (c : Bounds) (f : Visit) (tried : Scouted w (l - 1) c f) where
-  pub scouts_with : (s n : ℕ) → f ≡ Choice s n → Scouted w l b (Choice s (n + 1))
-  scouts_with s n e =
-      let q : seen f ≡ n = ap seen e in
+  pub scouts_with : (said f ≡ none → ⊥) → (r : Visit) → said r ≡ said f → seen r ≡ 1 + seen f → Scouted w l b r
+  scouts_with there r same more =
       let o = tried.most_seen in
-      record { sure = λ e. absurd (not-sure s e); some-seen = omega arith; most_seen = omega (arith, halves l some_left, tried.some-seen) }
+      record { sure = λ e. absurd (there (sym same ∙ e)); some-seen = omega arith; most_seen = omega (arith, halves l some_left, tried.some-seen) }
 
   -- what is found without the end
   pub scouts_without : (out : Bounds) → Keeps w b out → (v : Visit) → Scouted w (l - 1) out v

@@ -2,18 +2,18 @@
 // found out at once, however many ends stand before it. Assumes no more than its `requires`.
 #![tactic(auto)]
 
-ghost use Rattle.std.specs.Prelude.{◌≡◌, ◌+◌, ◌^◌, ◌≤◌, ◌<◌, length};
+ghost use Rattle.std.specs.Prelude.{◌≡◌, Some, ℕ, ◌+◌, ◌^◌, ◌≤◌, ◌<◌, length};
 ghost use Rattle.pick_bounds.specs.Bounds.{good};
-ghost use Rattle.pick_scout.specs.Scouting.{said, seen, Hinted, Scouted};
+ghost use Rattle.pick_scout.specs.Scouting.{said, seen, at_once, Hinted, Scouted};
 ghost use Rattle.paper.specs.Limits.{limits};
 
 use pick_bounds::{Bounds, Wanted};
 
-// What a search found, or ends to blame that could not be had, and how many states it visited.
+// What a search found, or else ends to blame that could not be had, and how many states it visited.
 #[derive(Clone, Copy)]
-pub enum Visit {
-    Choice(u32, usize),
-    Nothing(u32, usize),
+pub struct Visit {
+    pub found: Result<u32, u32>,
+    pub states: usize,
 }
 
 // What guides a search, and nothing relies on: a set in view, and ends that could not be had.
@@ -25,13 +25,11 @@ pub struct Hint {
 
 // ---- visits
 
-pub fn states_of(v: Visit) -> usize
-    ensures { result ≡ seen v }
+// What one state shows.
+pub fn at_once(found: Result<u32, u32>) -> Visit
+    ensures { result ≡ at_once found }
 {
-    match v {
-        Visit::Choice(_, more) => more,
-        Visit::Nothing(_, more) => more,
-    }
+    Visit { found, states: 1 }
 }
 
 // The same find, with the states visited before it.
@@ -39,9 +37,9 @@ pub fn after(states: usize, v: Visit) -> Visit
     requires { states + seen v < 2 ^ 64 }
     ensures { (said result ≡ said v) × (seen result ≡ states + seen v) }
 {
-    match v {
-        Visit::Choice(c, more) => Visit::Choice(c, states + more),
-        Visit::Nothing(c, more) => Visit::Nothing(c, states + more),
+    Visit {
+        found: v.found,
+        states: states + v.states,
     }
 }
 
@@ -49,12 +47,12 @@ pub fn after(states: usize, v: Visit) -> Visit
 pub fn hint_of(v: Visit, h: Hint) -> Hint
     ensures { Hinted v h result }
 {
-    match v {
-        Visit::Choice(c, _) => Hint {
+    match v.found {
+        Ok(c) => Hint {
             ends: c,
             blame: h.blame,
         },
-        Visit::Nothing(c, _) => blaming(c, h),
+        Err(c) => blaming(c, h),
     }
 }
 
@@ -73,12 +71,17 @@ fn blaming(ends: u32, h: Hint) -> Hint
 
 // ---- scouting
 
-// The end to try next of these: one of the set in view, if there is any; 32 of none. A hint: any end would do.
-fn next_of(ends: u32, view: u32) -> u32 {
+// The end to try next of these, if there are any: one of the set in view, if there is such. A hint: any end would do.
+fn next_of(ends: u32, view: u32) -> Option<usize>
+    ensures { (k : ℕ) → result ≡ Some k → k < 32 }
+{
     if ends & view != 0 {
-        return u32::trailing_zeros(ends & view);
+        return Some(pick_bounds::first_of(ends & view));
     }
-    u32::trailing_zeros(ends)
+    if ends != 0 {
+        return Some(pick_bounds::first_of(ends));
+    }
+    None
 }
 
 // A set between bounds where nothing is lacked: all that may be had, if that passes. A hint: the more ends it has, the fewer scouts follow.
@@ -97,37 +100,35 @@ pub fn scout(net: &[u32], want: Wanted, left: usize, h: Hint, b: Bounds) -> Visi
     ensures { Scouted (good net.now want) left b result }
 {
     if pick_bounds::is_dead(b) {
-        return Visit::Nothing(0, 1);
+        return at_once(Err(0));
     }
-    let view = pick_demands::look(net, want, h.blame, b);
-    if view.hopeless {
-        return Visit::Nothing(0, 1);
-    }
-    let k = next_of(view.next.ends, h.ends);
-    if left == 0 || k >= 32 {
-        return Visit::Choice(widest(net, want, b), 1);
-    }
-    let end = words::end_of(k as usize);
+    let Some(next) = pick_demands::look(net, want, h.blame, b) else {
+        return at_once(Err(0));
+    };
+    let k = match next_of(next.ends, h.ends) {
+        Some(k) if 0 < left => k,
+        _ => return at_once(Ok(widest(net, want, b))),
+    };
+    let end = words::end_of(k);
     let with = pick_bounds::settle(net, want, pick_bounds::add(end, b));
     let f = scout(net, want, left - 1, h, with);
-    if let Visit::Choice(c, more) = f {
-        return Visit::Choice(c, more + 1);
+    if f.found.is_ok() {
+        return after(1, f);
     }
-    let tried = states_of(f) + 1;
-    let told = hint_of(f, blaming(view.next.ends, h));
-    let gone = end | pick_twins::twins(net, want, k as usize, b);
+    let told = hint_of(f, blaming(next.ends, h));
+    let gone = end | pick_twins::twins(net, want, k, b);
     let out = pick_bounds::settle(net, want, pick_bounds::strike(gone, b));
     let v = scout(net, want, left - 1, told, out);
-    after(tried, blamed(v, told.blame))
+    after(f.states + 1, blamed(v, told.blame))
 }
 
 // A visit that found nothing blames these ends, if it has none to blame.
 fn blamed(v: Visit, ends: u32) -> Visit
     ensures { (said result ≡ said v) × (seen result ≡ seen v) }
 {
-    match v {
-        Visit::Choice(c, more) => Visit::Choice(c, more),
-        Visit::Nothing(c, more) => Visit::Nothing(either(c, ends), more),
+    Visit {
+        found: v.found.map_err(|c| either(c, ends)),
+        states: v.states,
     }
 }
 
@@ -152,7 +153,7 @@ pub fn survey(net: &[u32], want: Wanted, m: usize, h: Hint, b: Bounds) -> Visit
     ensures { Scouted (good net.now want) m b result }
 {
     if is_in_view(h, b) {
-        return Visit::Choice(h.ends, 1);
+        return at_once(Ok(h.ends));
     }
     scout(net, want, m, h, b)
 }

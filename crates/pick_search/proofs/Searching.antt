@@ -2,6 +2,8 @@
 use mathlib.Core.Path.{◌≡◌, refl, sym, ap, ◌∙◌, subst}
 use mathlib.Core.Bool.{Bool, true, false, not, cond}
 use mathlib.Core.Option.{Option, none, some}
+use Rattle.std.specs.Prelude.{Option as Told, Some, None, Result, Ok, Err}
+use Rattle.std.specs.Result.{result_ok}
 use Prim.Native.Nat.{ℕ, suc, ◌+◌, ◌*◌, ◌-◌, ◌%◌, ◌^◌, ◌≤◌, ◌<◌}
 use native.Mathlib.Nat.{pow-suc, zero-add, add-zero, mod-one}
 use native.Mathlib.Omega.{arith}
@@ -19,11 +21,8 @@ use Rattle.pick_bounds.specs.declared.Bounds.{Bounds}
 use Rattle.pick_search.specs.declared.Place.{Place}
 use Rattle.pick_search.specs.declared.Spot.{Spot}
 use Rattle.pick_scout.specs.declared.Visit.{Visit}
-use Rattle.pick_scout.specs.declared.Visit.TheVariants.{Choice, Nothing}
-use Rattle.pick_scout.specs.Scouting.{said, seen, Scouted}
+use Rattle.pick_scout.specs.Scouting.{chosen, said, seen, at_once, Scouted}
 use Rattle.pick_scout.proofs.Scouting.{two-more, halves, few_states}
-use Rattle.pick_search.specs.declared.ChoiceFound.{ChoiceFound}
-use Rattle.pick_search.specs.declared.ChoiceFound.TheVariants.{Choice as ChoiceFound-as-Choice, Nothing as ChoiceFound-as-Nothing}
 use Rattle.pick_bounds.specs.Net.{Net, meets, passes}
 use Rattle.pick_search.specs.Searching.{Answers, Confined, AtPlace, Skipped, stepped, Visited}
 use Rattle.pick_bounds.specs.Bounds.{Between, Keeps, NoneIn}
@@ -223,7 +222,7 @@ pub record Past (w : ℕ → Bool) (m left : ℕ) (p : Place) (b : Bounds) (t : 
   pub most_seen : t < 2097152 * 2 ^ (left - 1 + 1)
 
 -- ---- ways to answer
-pub ends_dead : (w : ℕ → Bool) (m left : ℕ) (p : Place) (b : Bounds) (c : ℕ) → AtPlace m left p → ((x : ℕ) → Between b x → ⊥) → Visited w m left p b (Nothing c 1)
+pub ends_dead : (w : ℕ → Bool) (m left : ℕ) (p : Place) (b : Bounds) (c : ℕ) → AtPlace m left p → ((x : ℕ) → Between b x → ⊥) → Visited w m left p b (at_once (Err c))
 ends_dead w m left p b c placed h = record {
   finds = λ all.
       let z : (m - left) + left ≡ m = let f = placed.few in omega arith in
@@ -266,7 +265,7 @@ module _ (w : ℕ → Bool) (m left : ℕ) (p : Place) (b : Bounds) (placed : At
         kept x e (adds at placed.weight x d.0 (all x l d.1 e)))
 
     -- all that may be had with it
-    pub finds-first : with.may < 2 ^ m → with.may % (taking p).bit ≡ (taking p).taken → w with.may ≡ true → Visited w m left p b (Choice with.may 1)
+    pub finds-first : with.may < 2 ^ m → with.may % (taking p).bit ≡ (taking p).taken → w with.may ≡ true → Visited w m left p b (at_once (Ok with.may))
     finds-first l s e = record {
       finds = λ all. sym (look_take w left at p.taken with.may some-open
           (sym (rw (follows, placed.weight)) ∙ may_first w m (left - 1) (taking p) with (placed_taking m left p placed some-open) most l s e (confined_in all)));
@@ -287,19 +286,22 @@ module _ (w : ℕ → Bool) (m left : ℕ) (p : Place) (b : Bounds) (placed : At
       looked all = took.finds (confined_in all) ∙ rw (follows, placed.weight)
 
       -- found with it
-      pub finds-with : (s n : ℕ) → f ≡ Choice s n → 1 ≤ t → Visited w m left p b (Choice s (n + t))
-      finds-with s n e ge =
-          let q : seen f ≡ n = ap seen e in
+      pub finds-with : (said f ≡ none → ⊥) → 1 ≤ t → (r : Visit) → said r ≡ said f → seen r ≡ t + seen f → Visited w m left p b r
+      finds-with there ge r same more =
           let o = took.most_seen in
           let z = few_states m m (omega arith) most in
           record {
-            finds = λ all. sym (look_take w left at p.taken s some-open (sym (looked all) ∙ ap said e));
+            finds = λ all. same ∙ by all (said f) refl;
             some-seen = omega arith;
             most_seen = omega (arith, halved, pow_pos (left - 1 + 1));
           }
+        where
+          by : Confined w m at p.taken b → (o : Option ℕ) → said f ≡ o → said f ≡ look w left at p.taken
+          by all none e = absurd (there e)
+          by all (some s) e = e ∙ sym (look_take w left at p.taken s some-open (sym (looked all) ∙ e))
 
       -- nothing with it
-      pub past_with : said f ≡ none → (u : ℕ) → u ≡ seen f + t → Past w m left p b u
+      pub past_with : said f ≡ none → (u : ℕ) → u ≡ t + seen f → Past w m left p b u
       past_with e u q = record {
         without = λ all. look_leave w left at p.taken some-open (sym (looked all) ∙ e);
         some-seen = omega (arith, took.some-seen);
@@ -315,7 +317,7 @@ module _ (w : ℕ → Bool) (m left : ℕ) (p : Place) (b : Bounds) (placed : At
         kept x e (strikes x (rw (beyond x e u d.0)) u))
 
     -- all that may be had without it
-    pub finds-first-out : out.may < 2 ^ m → out.may % (leaving p).bit ≡ (leaving p).taken → w out.may ≡ true → Visited w m left p b (Choice out.may (t + 1))
+    pub finds-first-out : out.may < 2 ^ m → out.may % (leaving p).bit ≡ (leaving p).taken → w out.may ≡ true → Visited w m left p b (record { found = Ok out.may; states = t + 1 })
     finds-first-out l s e = record {
       finds = λ all. sym (past.without all ∙ sym (rw follows) ∙ may_first w m (left - 1) (leaving p) out (placed_leaving m left p placed some-open) most l s e (confined_out all));
       some-seen = omega arith;
@@ -373,11 +375,11 @@ module _ (w : ℕ → Bool) (m top : ℕ) (is-top : top ≡ 2 ^ m) (most : m ≤
   )
 
   -- the scout finds nothing
-  pub whole-none : (f : Visit) → Scouted w m b f → (n : ℕ) → seen f ≡ n → said f ≡ none → (none ≡ look w m 0 0) × ((1 ≤ n) × (n < 2 ^ (m + 22)))
-  whole-none f scouted n q e =
+  pub whole-none : (f : Visit) → Scouted w m b f → said f ≡ none → (said f ≡ look w m 0 0) × ((1 ≤ seen f) × (seen f < 2 ^ (m + 22)))
+  whole-none f scouted e =
       let z : (m - m) + m ≡ m = omega arith in
       let a = scouted.most_seen in (
-        sym (look_none w m (m - m) 0 (pow_pos (m - m)) (λ x l s. false_if (w x) (λ g. scouted.sure e x g (whole x (rw z at l) s g)))) ∙ looks_all w m,
+        e ∙ sym (look_none w m (m - m) 0 (pow_pos (m - m)) (λ x l s. false_if (w x) (λ g. scouted.sure e x g (whole x (rw z at l) s g)))) ∙ looks_all w m,
         (omega (arith, scouted.some-seen), omega (arith, all_states m)),
       )
 
@@ -397,18 +399,22 @@ module _ (net : Net) (m : ℕ) (most : m ≤ limits.most_ends) where
   looked_at : (o : Option ℕ) → o ≡ look (passes 32 net) m 0 0 → Finds (passes 32 net) m 0 0 o
   looked_at o e = subst (λ (p : Option ℕ). Finds (passes 32 net) m 0 0 p) (sym e) (look_first (passes 32 net) m)
 
-  pub answers_choice : (c : ℕ) → some c ≡ look (passes 32 net) m 0 0 → Answers net m (ChoiceFound-as-Choice c)
+  pub answers_choice : (c : ℕ) → some c ≡ look (passes 32 net) m 0 0 → Answers net m (Some c)
   unfolding Answers
   answers_choice c e = first-same (passes 32 net) (passes m net) m agree c (found_first (passes 32 net) m c (looked_at (some c) e))
 
-  pub answers_nothing : none ≡ look (passes 32 net) m 0 0 → Answers net m ChoiceFound-as-Nothing
+  pub answers_nothing : none ≡ look (passes 32 net) m 0 0 → Answers net m None
   unfolding Answers
   answers_nothing e = λ x l. sym (agree x l) ∙ looked_at none e x (rw (zero-add m) l) (mod-one x)
 
+  pub answers_found : (r : Result ℕ ℕ) → chosen r ≡ look (passes 32 net) m 0 0 → Answers net m (result_ok r)
+  answers_found (Ok c) e = answers_choice c e
+  answers_found (Err c) e = answers_nothing e
+
 -- the promise allows one answer
-pub answers_unique : (net : Net) (m : ℕ) (f g : ChoiceFound) → Answers net m f → Answers net m g → f ≡ g
+pub answers_unique : (net : Net) (m : ℕ) (f g : Told ℕ) → Answers net m f → Answers net m g → f ≡ g
 unfolding Answers
-answers_unique net m (ChoiceFound-as-Choice c) (ChoiceFound-as-Choice d) p q = ap ChoiceFound-as-Choice (first_unique c d p q)
-answers_unique net m (ChoiceFound-as-Choice c) ChoiceFound-as-Nothing p q = never (passes m net c) p.passes (q c p.is_set)
-answers_unique net m ChoiceFound-as-Nothing (ChoiceFound-as-Choice d) p q = never (passes m net d) q.passes (p d q.is_set)
-answers_unique net m ChoiceFound-as-Nothing ChoiceFound-as-Nothing p q = refl
+answers_unique net m (Some c) (Some d) p q = ap Some (first_unique c d p q)
+answers_unique net m (Some c) None p q = never (passes m net c) p.passes (q c p.is_set)
+answers_unique net m None (Some d) p q = never (passes m net d) q.passes (p d q.is_set)
+answers_unique net m None None p q = refl

@@ -1,5 +1,5 @@
 -- What each step of the search promises, and what the search itself. Assumes nothing.
-use Rattle.std.specs.Prelude.{ℕ, ◌+◌, ◌*◌, ◌-◌, ◌%◌, ◌^◌, ◌≤◌, ◌<◌, ◌≡◌, Bool, true, false}
+use Rattle.std.specs.Prelude.{ℕ, ◌+◌, ◌*◌, ◌-◌, ◌%◌, ◌^◌, ◌≤◌, ◌<◌, ◌≡◌, Bool, true, false, Some, None}
 use Rattle.paper.proofs.Search.{look}
 use Rattle.pick_bounds.specs.declared.Bounds.{Bounds}
 use Rattle.pick_search.specs.declared.Place.{Place}
@@ -8,14 +8,13 @@ use Rattle.pick_scout.specs.declared.Visit.{Visit}
 use Rattle.pick_scout.specs.Scouting.{said, seen}
 use Rattle.pick_bounds.specs.Net.{passes, Net}
 use Rattle.paper.specs.Choices.{FirstOf}
-use Rattle.pick_search.specs.declared.ChoiceFound.{ChoiceFound}
-use Rattle.pick_search.specs.declared.ChoiceFound.TheVariants.{Choice as ChoiceFound-as-Choice, Nothing as ChoiceFound-as-Nothing}
+use Rattle.std.specs.Prelude.{Option}
 use Rattle.pick_bounds.specs.Bounds.{Between}
 
 -- ---- the first set of m ends that passes, or that none does
-unfoldable pub Answers : Net → ℕ → ChoiceFound → Type 0
-Answers net m (ChoiceFound-as-Choice c) = FirstOf (passes m net) m c
-Answers net m ChoiceFound-as-Nothing = (x : ℕ) → x < 2 ^ m → passes m net x ≡ false
+unfoldable pub Answers : Net → ℕ → Option ℕ → Type 0
+Answers net m (Some c) = FirstOf (passes m net) m c
+Answers net m None = (x : ℕ) → x < 2 ^ m → passes m net x ≡ false
 
 -- ---- step by step
 -- each set of m ends that passes and whose digits below k are those of `taken` lies between the bounds

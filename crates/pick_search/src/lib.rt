@@ -16,13 +16,6 @@ ghost use Rattle.paper.specs.Limits.{limits};
 use pick_bounds::{Bounds, Wanted};
 use pick_scout::{Hint, Visit};
 
-// The first set that passes, or that none does.
-#[derive(Clone, Copy)]
-pub enum ChoiceFound {
-    Choice(u32),
-    Nothing,
-}
-
 // Where the search is: the weight of the first open end, and the ends taken before it.
 #[derive(Clone, Copy)]
 struct Place {
@@ -74,32 +67,22 @@ fn skip(m: usize, left: usize, p: Place, b: Bounds) -> Spot
     requires { (m ≤ limits.most_ends) × AtPlace m left p }
     ensures { (result.left ≤ left) × AtPlace m result.left result.place × ((passing : ℕ → Bool) → Skipped passing m left p b result) }
 {
-    let mut rest = left;
     let mut place = p;
-    while 0 < rest {
+    for i in (0..left).rev() {
         if is_open(place.bit, b) {
-            return Spot {
-                left: rest,
-                place: place,
-            };
+            return Spot { left: i + 1, place };
         }
         place = decide(place, b);
-        rest -= 1;
     }
-    Spot {
-        left: rest,
-        place: place,
-    }
+    Spot { left: 0, place }
 }
 
 // A set found, or nothing.
 fn answer(passes: bool, c: u32, states: usize) -> Visit
     ensures { (said result ≡ cond passes (some c) none) × (seen result ≡ states) }
 {
-    if passes {
-        return Visit::Choice(c, states);
-    }
-    Visit::Nothing(0, states)
+    let found = if passes { Ok(c) } else { Err(0) };
+    Visit { found, states }
 }
 
 // Whether all ends that may be had pass together, and begin with those taken: then no other set comes before them.
@@ -121,10 +104,10 @@ fn gone(net: &[u32], want: Wanted, k: usize, end: u32, v: Visit, b: Bounds) -> u
     requires { limits.most_ends ≤ length net.now }
     ensures { end ≡ 2 ^ k → (said v ≡ none → Lacking (good net.now want) b k) → (x : ℕ) → good net.now want x ≡ true → Between b x → has x k ≡ false → meets 32 x result ≡ false }
 {
-    match v {
-        Visit::Choice(_, _) => end,
-        Visit::Nothing(_, _) => end | pick_twins::twins(net, want, k, b),
+    if v.found.is_ok() {
+        return end;
     }
+    end | pick_twins::twins(net, want, k, b)
 }
 
 // The first set that passes among those that have `p.taken` before the open ends, if those that pass lie between the bounds.
@@ -133,7 +116,7 @@ fn search(net: &[u32], want: Wanted, m: usize, left: usize, p: Place, b: Bounds,
     ensures { Visited (good net.now want) m left p b result }
 {
     if pick_bounds::is_dead(b) {
-        return Visit::Nothing(0, 1);
+        return pick_scout::at_once(Err(0));
     }
     let s = skip(m, left, p, b);
     let q = s.place;
@@ -144,23 +127,26 @@ fn search(net: &[u32], want: Wanted, m: usize, left: usize, p: Place, b: Bounds,
     let with = pick_bounds::settle(net, want, pick_bounds::add(q.bit, b));
     let taking = step(q, q.bit);
     if is_first(net, want, m, taking, with) {
-        return Visit::Choice(with.may, 1);
+        return pick_scout::at_once(Ok(with.may));
     }
     let view = pick_scout::survey(net, want, m, h, with);
     let told = pick_scout::hint_of(view, h);
-    let mut tried = pick_scout::states_of(view);
-    if let Visit::Choice(_, _) = view {
+    let mut tried = view.states;
+    if view.found.is_ok() {
         let f = search(net, want, m, fewer, taking, with, told);
-        if let Visit::Choice(c, more) = f {
-            return Visit::Choice(c, more + tried);
+        if f.found.is_ok() {
+            return pick_scout::after(tried, f);
         }
-        tried = pick_scout::states_of(f) + tried;
+        tried += f.states;
     }
     let lost = gone(net, want, m - s.left, q.bit, view, b);
     let out = pick_bounds::settle(net, want, pick_bounds::strike(lost, b));
     let leaving = step(q, 0);
     if is_first(net, want, m, leaving, out) {
-        return Visit::Choice(out.may, tried + 1);
+        return Visit {
+            found: Ok(out.may),
+            states: tried + 1,
+        };
     }
     let v = search(net, want, m, fewer, leaving, out, told);
     pick_scout::after(tried, v)
@@ -178,29 +164,26 @@ fn search_all(net: &[u32], want: Wanted, m: usize) -> Visit
     };
     let b = pick_bounds::settle(net, want, all);
     if is_first(net, want, m, p, b) {
-        return Visit::Choice(b.may, 1);
+        return pick_scout::at_once(Ok(b.may));
     }
     let h = Hint {
-        ends: 4294967295,
+        ends: u32::MAX,
         blame: 0,
     };
     let view = pick_scout::scout(net, want, m, h, b);
-    if let Visit::Nothing(_, more) = view {
-        return Visit::Nothing(0, more);
+    if view.found.is_err() {
+        return view;
     }
     let v = search(net, want, m, m, p, b, pick_scout::hint_of(view, h));
-    pick_scout::after(pick_scout::states_of(view), v)
+    pick_scout::after(view.states, v)
 }
 
 // The first set of m ends that passes the net and holds what is wanted.
-pub fn first(net: &[u32], want: Wanted, m: usize) -> ChoiceFound
+pub fn first(net: &[u32], want: Wanted, m: usize) -> Option<u32>
     requires { (limits.most_ends ≤ length net.now) × (m ≤ limits.most_ends) }
     ensures { Answers (net_of net.now want) m result }
 {
-    match search_all(net, want, m) {
-        Visit::Choice(c, _) => ChoiceFound::Choice(c),
-        Visit::Nothing(_, _) => ChoiceFound::Nothing,
-    }
+    search_all(net, want, m).found.ok()
 }
 
 // How many states that search visits: what a test can hold down.
@@ -208,5 +191,5 @@ pub fn states(net: &[u32], want: Wanted, m: usize) -> usize
     requires { (limits.most_ends ≤ length net.now) × (m ≤ limits.most_ends) }
     ensures { (1 ≤ result) × (result < 2 ^ (m + 22)) }
 {
-    pick_scout::states_of(search_all(net, want, m))
+    search_all(net, want, m).states
 }

@@ -68,9 +68,6 @@ module _ (ends : ℕ) (P : ℕ → ℕ → Type 0) where
   abbrev pub Before : ℕ → ℕ → Type 0
   Before same i = Only (λ j. (m : ℕ) → m < i → P j m) ends same
 
-  pub before-none : Before ends 0
-  before-none j h = (h, λ m l. absurd (omega arith))
-
   pub before_more : (same next i : ℕ) → Before same i → Only (λ j. P j i) same next → Before next (i + 1)
   before_more same next i f g j h =
       let q = g j h in

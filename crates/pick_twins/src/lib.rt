@@ -28,12 +28,9 @@ fn alike_in_rules(net: &[u32], k: usize, ends: u32) -> u32
     ensures { (j : ℕ) → has result j ≡ true → (has ends j ≡ true) × AlikeAll net.now k j }
 {
     let mut same = ends;
-    let n = pick_bounds::size(net);
-    let mut i: usize = 0;
-    while i < n {
+    for i in 0..pick_bounds::size(net) {
         let rule = pick_bounds::rule_at(net, i);
         same = alike(rule.only, k, alike(rule.when, k, same));
-        i += 1;
     }
     same
 }
@@ -55,10 +52,8 @@ fn alike_in_rivals(net: &[u32], k: usize, ends: u32) -> u32
     ensures { (j : ℕ) → has result j ≡ true → (has ends j ≡ true) × AlikeRivals net.now k j }
 {
     let mut same = ends;
-    let mut i: usize = 0;
-    while i < pick_bounds::ENDS {
+    for i in 0..pick_bounds::ENDS {
         same = alike_but(net[i], k, i, same);
-        i += 1;
     }
     same
 }
@@ -72,7 +67,7 @@ fn with_rivals(net: &[u32], k: usize, ends: u32) -> u32
     let mut left = ends;
     while left != 0 {
         let j = pick_bounds::first_of(left);
-        kept = kept | shared(net, k, j);
+        kept |= shared(net, k, j);
         left = pick_bounds::without(left, words::end_of(j));
     }
     kept

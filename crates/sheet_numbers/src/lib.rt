@@ -63,10 +63,8 @@ pub fn put_commas(s: &[u8], from: usize, n: usize, out: &mut [u8], to: usize) ->
         return to + 1;
     }
     let mut next = put_decimal(wire::wide(s[from]), out, to);
-    let mut k: usize = 1;
-    while k < n {
+    for k in 1..n {
         next = put_parted(COMMA, wire::wide(s[from + k]), out, next);
-        k += 1;
     }
     next
 }

@@ -1,5 +1,5 @@
 -- Laws of the text that a sheet's bytes have: record by record. Assumes nothing.
-use mathlib.Core.Path.{◌≡◌, refl, ap}
+use mathlib.Core.Path.{◌≡◌, refl}
 use mathlib.Core.List.{List, [], ◌∷◌, ◌++◌, append_assoc}
 use Prim.Native.Nat.{ℕ, zero, suc, ◌+◌, ◌-◌, ◌≤◌, ◌<◌}
 use native.Mathlib.Omega.{arith}
@@ -24,9 +24,6 @@ module _ (s : List ℕ) where
   value-some p v n e = rw (ne_eqb (at s p) 0 n, e)
 
   -- ---- paths
-  pub paths-whole : (p m : ℕ) → (paths_over s p (m - 0) ≡ paths_over s p m) × (paths_printed s p (m - 0) ≡ paths_printed s p m)
-  paths-whole p m = let e : m - 0 ≡ m = omega arith in (ap (paths_over s p) e, ap (paths_printed s p) e)
-
   pub path-is : (p n : ℕ) → n ≡ at s p → 32 ∷ commas (take n (drop (p + 1) s)) ≡ path_printed s p
   unfolding path_printed
   path-is p n e = rw e
@@ -85,9 +82,6 @@ end_is t s p k m e = rw e
 
 -- ---- the lines of ends
 module _ (t s : List ℕ) where
-  pub ends-whole : (p n : ℕ) → (ends_over s p (n - 0) ≡ ends_over s p n) × (ends_printed t s p 0 (n - 0) ≡ ends_printed t s p 0 n)
-  ends-whole p n = let e : n - 0 ≡ n = omega arith in (ap (ends_over s p) e, ap (ends_printed t s p 0) e)
-
   pub fit_whole : (p n : ℕ) → EndsFit t s p n → EndsFit t s p (n - 0)
   fit_whole p n f = let e : n - 0 ≡ n = omega arith in rw e f
 

@@ -53,11 +53,9 @@ fn put_paths(s: &[u8], start: usize, m: usize, out: &mut [u8], to: usize) -> Pla
 {
     let mut p = start;
     let mut next = to;
-    let mut j: usize = 0;
-    while j < m {
+    for j in 0..m {
         next = put_path(s, p, out, next);
         p += 1 + wire::wide(s[p]);
-        j += 1;
     }
     Places {
         read: p,
@@ -127,12 +125,10 @@ fn put_ends(t: &[u8], table: Table, s: &[u8], n: usize, out: &mut [u8], to: usiz
 {
     let mut p = ENDS;
     let mut next = to;
-    let mut k: usize = 0;
-    while k < n {
+    for k in 0..n {
         let e = put_end(t, table, s, p, k, out, next);
         p = e.read;
         next = e.written;
-        k += 1;
     }
     next
 }

@@ -18,34 +18,28 @@ fn front_length(s: &[u8]) -> usize
     n
 }
 
-fn front(s: &[u8]) -> &[u8]
-    ensures { result.now ≡ part s.now }
+// The part in front, and what is behind it.
+fn split(s: &[u8]) -> (&[u8], &[u8])
+    ensures { (result.0.now ≡ part s.now) × (result.1.now ≡ behind s.now) }
 {
     let n = front_length(s);
-    &s[..n]
-}
-
-fn rest(s: &[u8]) -> &[u8]
-    ensures { result.now ≡ behind s.now }
-{
-    let n = front_length(s);
-    &s[n..]
+    s.split_at(n)
 }
 
 pub fn table_part(s: &[u8]) -> &[u8]
     ensures { result.now ≡ table_part s.now }
 {
-    front(s)
+    split(s).0
 }
 
 pub fn marking_part(s: &[u8]) -> &[u8]
     ensures { result.now ≡ marking_part s.now }
 {
-    front(rest(s))
+    split(split(s).1).0
 }
 
 pub fn guards_part(s: &[u8]) -> &[u8]
     ensures { result.now ≡ guards_part s.now }
 {
-    rest(rest(s))
+    split(split(s).1).1
 }

@@ -8,7 +8,6 @@ use mathlib.Core.List.{List, [], ◌∷◌, ◌++◌}
 use lib.Dec.{eqb}
 use lib.ListN.{length, take, drop, set, length-append}
 use lib.Seq.{sets}
-use borrow.Author.Tests.{ne_eqb}
 use Rattle.paper.specs.Lists.{at, below, gather}
 use Rattle.paper.specs.Limits.{limits}
 use Rattle.paper.specs.Bytes.{two, four}
@@ -23,9 +22,6 @@ use Rattle.sheet_write.specs.Listing.{value_shown, many, front_shown, path_shown
 -- ---- a value
 pub no_value : (d : List ℕ) (to h v : ℕ) → h ≡ 0 → sets (set d to 0) (to + 1) (four 0) ≡ sets d to (value_shown h v)
 no_value d to h v e = rw (e, add-one to)
-
-pub some-value : (d : List ℕ) (to h v : ℕ) → (h ≡ 0 → ⊥) → sets (set d to 1) (to + 1) (four v) ≡ sets d to (value_shown h v)
-some-value d to h v n = rw (ne_eqb h 0 n, add-one to)
 
 pub length-value : (h v : ℕ) → length (value_shown h v) ≡ 5
 length-value h v = ⊎_elim (λ e. rw e) (λ e. rw e) (true_or_false (eqb h 0))

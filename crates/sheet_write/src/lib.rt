@@ -9,13 +9,14 @@ ghost use Rattle.paper.specs.Limits.{limits};
 ghost use Rattle.paper.specs.Answers.{good};
 ghost use Rattle.paper.specs.Operations.{in_room, Reply};
 ghost use Rattle.wire.specs.Totals.{total};
+ghost use Rattle.wire.specs.Refusals.{word_of};
 ghost use Rattle.offers.specs.Rows.{row_cells};
 ghost use Rattle.ends_paths.specs.Blocks.{most_blocks, block_cells, first_block, block_start};
 ghost use Rattle.sheet_write.specs.Listing.{value_shown, front_shown, path_shown, path_of, path_takes, end_takes, most_end_size, sheet_takes, most_sheet_size, end_shown, sheet_shown, Measured, Shows};
 
 use offers::{MOST_PATHS, has_of, last_of, paths_of, value_of};
 use table::Table;
-use wire::wide;
+use wire::{Refusal, wide};
 
 // What the path in a block takes.
 fn path_size(lens: &[u8], q: usize) -> usize
@@ -32,10 +33,8 @@ fn end_size(rows: &[u64], ends: &[u8], order: &[u8], lens: &[u8], n: usize, k: u
 {
     let m = paths_of(rows, wide(ends[k]));
     let mut taken: usize = 7;
-    let mut j: usize = 0;
-    while j < m {
+    for j in 0..m {
         taken += path_size(lens, wide(order[MOST_PATHS * k + j]));
-        j += 1;
     }
     taken
 }
@@ -46,10 +45,8 @@ fn size(rows: &[u64], ends: &[u8], order: &[u8], lens: &[u8], n: usize) -> usize
     ensures { (result ≡ sheet_takes rows.now ends.now order.now lens.now n) × (4 ≤ result) × (result ≤ most_sheet_size) }
 {
     let mut taken: usize = 4;
-    let mut k: usize = 0;
-    while k < n {
+    for k in 0..n {
         taken += end_size(rows, ends, order, lens, n, k);
-        k += 1;
     }
     taken
 }
@@ -109,10 +106,8 @@ fn write_paths(
     ensures { (result ≡ start + total (path_takes order.now lens.now k) m) × (out.new ≡ sets out.old start (gather (path_of order.now lens.now cells.now k) (below m))) }
 {
     let mut to = start;
-    let mut j: usize = 0;
-    while j < m {
+    for j in 0..m {
         to = write_path(lens, cells, wide(order[MOST_PATHS * k + j]), out, to);
-        j += 1;
     }
     to
 }
@@ -151,10 +146,8 @@ fn write_ends(
     ensures { out.new ≡ sets out.old 4 (gather (end_shown rows.now ends.now order.now lens.now cells.now) (below n)) }
 {
     let mut to: usize = 4;
-    let mut k: usize = 0;
-    while k < n {
+    for k in 0..n {
         to = write_end(rows, ends, order, lens, cells, n, k, out, to);
-        k += 1;
     }
 }
 
@@ -185,14 +178,14 @@ pub fn show(
     cells: &[u8],
     n: usize,
     out: &mut [u8],
-) -> u64
+) -> Result<usize, Refusal>
     requires { Shows rows.now ends.now order.now lens.now cells.now n }
-    ensures { Reply (in_room (length out.old) (good (sheet_shown rows.now ends.now order.now lens.now cells.now n))) result out.old out.new }
+    ensures { Reply (in_room (length out.old) (good (sheet_shown rows.now ends.now order.now lens.now cells.now n))) (word_of result) out.old out.new }
 {
     let len = size(rows, ends, order, lens, n);
     if out.len() < len {
-        return wire::pack(17, 0, 0);
+        return Err(Refusal::Room);
     }
     write(rows, ends, order, lens, cells, n, len, out);
-    wire::pack(0, 0, len)
+    Ok(len)
 }

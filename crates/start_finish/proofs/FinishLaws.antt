@@ -1,6 +1,6 @@
 -- What finish answers, row by row: of the marking that was read, of an action that runs in it, and what is then delivered. Assumes nothing.
 use mathlib.Core.Path.{◌≡◌, sym}
-use mathlib.Core.Bool.{true}
+use mathlib.Core.Bool.{Bool, true}
 use mathlib.Core.List.{List}
 use Prim.Native.Nat.{ℕ}
 use lib.Dec.{eqb}
@@ -13,8 +13,9 @@ use Rattle.paper.proofs.Ladders.{need-refused}
 use Rattle.table.specs.declared.Table.{Table}
 use Rattle.table.specs.Reading.{table_read}
 use Rattle.table.proofs.Reading.{read-fine}
-use Rattle.marking.specs.declared.reading.MarkingAnswer.{MarkingAnswer}
-use Rattle.marking.specs.declared.reading.MarkingAnswer.TheVariants.{Ended, Refused}
+use Rattle.std.specs.Prelude.{Result, Ok, Err}
+use Rattle.wire.specs.declared.Refusal.{Refusal}
+use Rattle.wire.specs.Refusals.{number, place}
 use Rattle.marking.specs.Reading.{MarkingRead}
 use Rattle.marking.specs.Values.{listed_nodes}
 use Rattle.marking_held.specs.MarkingHeld.{Held, LiveMarking}
@@ -25,12 +26,12 @@ use Rattle.start_finish.specs.Running.{runs_in}
 
 module _ (t b : List ℕ) (a : ℕ) (vs : List ℕ) where
   module _ {x : Table} (e : table_read t ≡ good x) where
-    module _ (from kept tokens : List ℕ) (r : MarkingAnswer) (h : MarkingRead t b from kept tokens (marking t b) r) where
-      pub finish_5 : (n p : ℕ) → r ≡ Refused n p → finish t b a vs ≡ refused n p
+    module _ (from kept tokens : List ℕ) (r : Result Bool Refusal) (h : MarkingRead t b from kept tokens (marking t b) r) where
+      pub finish_5 : (w : Refusal) → r ≡ Err w → finish t b a vs ≡ refused (number w) (place w)
       unfolding finish
-      finish_5 n p q = let z = refused_up t b from kept tokens r h n p q in rw (read-fine t e, z.0, z.1, z.2)
+      finish_5 w q = let z = refused_up t b from kept tokens r h w q in rw (read-fine t e, z.0, z.1, z.2)
 
-      pub finish_6 : r ≡ Ended → finish t b a vs ≡ refused 6 0
+      pub finish_6 : r ≡ Ok true → finish t b a vs ≡ refused 6 0
       unfolding finish finish_of
       finish_6 q = let z = ended_up t b from kept tokens r h q in rw (read-fine t e, z.1, z.2)
 

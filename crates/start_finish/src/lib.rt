@@ -12,11 +12,12 @@ ghost use Rattle.table.specs.Reading.{Spans, table_read};
 ghost use Rattle.marking_held.specs.MarkingHeld.{HeldLengths, LiveMarking, held_of};
 ghost use Rattle.marking_give.specs.Giving.{fires_as};
 ghost use Rattle.start_finish.specs.Delivered.{Deliverable, delivered};
-ghost use Rattle.start_finish.specs.Running.{said, runs_in};
+ghost use Rattle.start_finish.specs.Running.{runs_in};
+ghost use Rattle.wire.specs.Refusals.{said, word_of};
 
-use marking::{MarkingAnswer, ValuesAnswer};
 use marking_give::{Firing, Listing};
 use table::Table;
+use wire::Refusal;
 
 // The lists appended and the tokens handed out (rows 15 and 16), then the reply: what start and finish end with.
 fn deliver(
@@ -30,18 +31,18 @@ fn deliver(
     kept: &[u8],
     tokens: &mut [u8],
     out: &mut [u8],
-) -> u64
+) -> Result<usize, Refusal>
     requires { (table_read t.now ≡ good table) × HeldLengths (held_of from.now kept.now tokens.old)
         × Deliverable t.now listing.kind listing.owner old.now (held_of from.now kept.now tokens.old) }
     ensures { (d : Deliverable t.now listing.kind listing.owner old.now
         (held_of from.now kept.now tokens.old))
         → Reply (in_room (length out.old)
         (delivered t.now listing.kind listing.owner (fires_as t.now firing) d.current values.now))
-        result out.old out.new }
+        (word_of result) out.old out.new }
 {
     let mut place = [0u16; Table::MOST_NODES];
     let mut more = [0u8; Table::MOST_NODES];
-    if let ValuesAnswer::Refused(number, at) = marking::read_values(
+    marking::read_values(
         t,
         table,
         listing.kind,
@@ -49,43 +50,34 @@ fn deliver(
         values,
         &mut place,
         &mut more,
-    ) {
-        return wire::pack(number, at, 0);
-    }
+    )?;
     if !marking_give::stocks_fit(t, table, kept, &more) {
-        return wire::pack(16, 0, 0);
+        return Err(Refusal::Stock);
     }
     if !marking_give::gain(t, table, firing, tokens) {
-        return wire::pack(16, 0, 0);
+        return Err(Refusal::Stock);
     }
     marking_write::reply(
         t, table, 0, old, values, from, kept, &place, &more, kept, tokens, out,
     )
 }
 
-// What asking for a running action answers: nothing but that it runs, or the refusal's number and its place.
-#[derive(Clone, Copy)]
-enum RunningAnswer {
-    Good,
-    Refused(u8, u8),
-}
-
 // Whether node a is a running action (row 14).
-fn running(t: &[u8], table: Table, kept: &[u8], a: usize) -> RunningAnswer
+fn running(t: &[u8], table: Table, kept: &[u8], a: usize) -> Result<(), Refusal>
     requires { Spans t.now table × (table.nodes ≤ length kept.now) }
     ensures { (m : Marking) → ((i : ℕ) → i < nodes t.now → is_action (kind t.now i) ≡ true
         → at kept.now i ≡ one_if (m.runs i)) → said result ≡ need 14 (runs_in t.now m a) }
 {
     if a >= table.nodes {
-        return RunningAnswer::Refused(14, 0);
+        return Err(Refusal::Idle);
     }
     if table.kind(t, a) != Table::ACTION {
-        return RunningAnswer::Refused(14, 0);
+        return Err(Refusal::Idle);
     }
     if kept[a] != 1 {
-        return RunningAnswer::Refused(14, 0);
+        return Err(Refusal::Idle);
     }
-    RunningAnswer::Good
+    Ok(())
 }
 
 // finish on a live marking that was read and in which action a runs.
@@ -99,13 +91,13 @@ fn conclude(
     kept: &mut [u8],
     tokens: &mut [u8],
     out: &mut [u8],
-) -> u64
+) -> Result<usize, Refusal>
     requires { (table_read t.now ≡ good table) × (a < table.nodes) × (is_action (kind t.now a) ≡ true)
         × LiveMarking t.now b.now (held_of from.now kept.old tokens.old) }
     ensures { (l : LiveMarking t.now b.now (held_of from.now kept.old tokens.old))
         → Reply (in_room (length out.old)
         (delivered t.now 4 a (λ i. eqb i a) (idled t.now a l.current) values.now))
-        result out.old out.new }
+        (word_of result) out.old out.new }
 {
     marking_held::idle(t, table, a, kept);
     let listing = Listing {
@@ -127,9 +119,9 @@ fn conclude(
 }
 
 // start on a table that was read.
-pub fn start(t: &[u8], table: Table, values: &[u8], out: &mut [u8]) -> u64
+pub fn start(t: &[u8], table: Table, values: &[u8], out: &mut [u8]) -> Result<usize, Refusal>
     requires { table_read t.now ≡ good table }
-    ensures { Leaves (Only (started t.now values.now)) result out.old out.new }
+    ensures { Leaves (Only (started t.now values.now)) (word_of result) out.old out.new }
 {
     let listing = Listing {
         kind: Table::INCOMING,
@@ -154,21 +146,25 @@ pub fn start(t: &[u8], table: Table, values: &[u8], out: &mut [u8]) -> u64
 }
 
 // finish on a table that was read.
-pub fn finish(t: &[u8], table: Table, b: &[u8], action: u8, values: &[u8], out: &mut [u8]) -> u64
+pub fn finish(
+    t: &[u8],
+    table: Table,
+    b: &[u8],
+    action: u8,
+    values: &[u8],
+    out: &mut [u8],
+) -> Result<usize, Refusal>
     requires { table_read t.now ≡ good table }
-    ensures { Leaves (Only (finished t.now b.now action values.now)) result out.old out.new }
+    ensures { Leaves (Only (finished t.now b.now action values.now)) (word_of result) out.old out.new }
 {
     let mut from = [0u16; Table::MOST_NODES];
     let mut kept = [0u8; Table::MOST_NODES];
     let mut tokens = [0u8; Table::MOST_EDGES];
-    match marking::read(t, table, b, &mut from, &mut kept, &mut tokens) {
-        MarkingAnswer::Live => {}
-        MarkingAnswer::Ended => return wire::pack(6, 0, 0),
-        MarkingAnswer::Refused(number, place) => return wire::pack(number, place, 0),
+    let ended = marking::read(t, table, b, &mut from, &mut kept, &mut tokens)?;
+    if ended {
+        return Err(Refusal::Ended);
     }
     let a = wire::wide(action);
-    if let RunningAnswer::Refused(number, place) = running(t, table, &kept, a) {
-        return wire::pack(number, place, 0);
-    }
+    running(t, table, &kept, a)?;
     conclude(t, table, b, a, values, &from, &mut kept, &mut tokens, out)
 }

@@ -12,9 +12,10 @@ use Rattle.paper.specs.Choices.{Board, how_many, rules, next}
 use Rattle.paper.specs.Operations.{rising, choice_of, step_of, packed, in_room, Reply}
 use Rattle.offers.specs.declared.Offers.{Offers}
 use Rattle.ends_masks.specs.declared.Ends.{Ends}
-use Rattle.choice_judge.specs.declared.Judged.{Judged}
-use Rattle.choice_judge.specs.declared.Judged.TheVariants.{Fine, Refused as Unfit}
-use Rattle.choice_judge.specs.Judging.{said, row_rules}
+use Rattle.std.specs.Prelude.{Result, Ok, Err}
+use Rattle.wire.specs.declared.Refusal.{Refusal}
+use Rattle.wire.specs.Refusals.{said, number, place}
+use Rattle.choice_judge.specs.Judging.{row_rules}
 use Rattle.choice_judge.proofs.Meaning.{judged_rows}
 use Rattle.choice.specs.Choice.{choice_read}
 use Rattle.choice.proofs.Laws.{refused-is, good-is, choice_is}
@@ -47,16 +48,16 @@ module _ (t : List ℕ) (d : Board) (n : ℕ) (q : n ≡ how_many d) (ks : List 
   settled-reply c e w out after h = rw (chosen_settles c e) h
 
 -- ---- rows 10 to 12
-module _ {t b : List ℕ} {o : Offers} {e : Ends} {x : Held} (s : Standing t b o e x) (c : ℕ) (r : Judged)
+module _ {t b : List ℕ} {o : Offers} {e : Ends} {x : Held} (s : Standing t b o e x) (c : ℕ) (r : Result (Unit {0}) Refusal)
     (h : said r ≡ judged_by (row_rules t o e x.runs x.kept) c) where
   verdict : judged_by (rules s.on) c ≡ said r
   verdict = sym (h ∙ judged_rows t s.on o e x.runs x.kept c s.stands)
 
-  pub settled-refused : (i p w : ℕ) (out : List ℕ) → r ≡ Unfit i p → w ≡ packed i p 0 → Reply (in_room (length out) (settled t s.on c)) w out out
+  pub settled-refused : (why : Refusal) (w : ℕ) (out : List ℕ) → r ≡ Err why → w ≡ packed (number why) (place why) 0 → Reply (in_room (length out) (settled t s.on c)) w out out
   unfolding settled
-  settled-refused i p w out q z = rw (verdict, q) (z, refl)
+  settled-refused why w out q z = rw (verdict, q) (z, refl)
 
-  pub settled_moves : r ≡ Fine → (w : ℕ) (out after : List ℕ) → Reply (in_room (length out) (good (encode t (next s.on c)))) w out after
+  pub settled_moves : r ≡ Ok tt → (w : ℕ) (out after : List ℕ) → Reply (in_room (length out) (good (encode t (next s.on c)))) w out after
       → Reply (in_room (length out) (settled t s.on c)) w out after
   unfolding settled
   settled_moves q w out after z = rw (verdict, q) z

@@ -10,14 +10,14 @@ ghost use Rattle.table.specs.Reading.{table_read};
 ghost use Rattle.offers.specs.Struct.{Full};
 ghost use Rattle.ends_masks.specs.Seating.{EndsFull};
 ghost use Rattle.marking_held.specs.MarkingHeld.{FieldsLengths, fields_held};
+ghost use Rattle.wire.specs.Refusals.{word_of};
 ghost use Rattle.step.specs.Stepping.{chosen, Standing};
 
-use choice::ChoiceAnswer;
-use choice_judge::Judged;
 use ends_masks::Ends;
 use marking::Fields;
 use offers::Offers;
 use table::Table;
+use wire::Refusal;
 
 // The choice is read (row 9), judged (rows 10 to 12) and, if no rule refuses it, taken. One function, so that the offers aren't copied from stage to stage.
 pub fn step(
@@ -29,20 +29,15 @@ pub fn step(
     ends: Ends,
     fields: Fields,
     out: &mut [u8],
-) -> u64
+) -> Result<usize, Refusal>
     requires { (table_read t.now ≡ good table) × Full offers × EndsFull ends × FieldsLengths fields
         × Standing t.now b.now offers ends (fields_held fields) }
     ensures { (s : Standing t.now b.now offers ends (fields_held fields))
-        → Reply (in_room (length out.old) (chosen t.now s.on choice.now)) result out.old out.new }
+        → Reply (in_room (length out.old) (chosen t.now s.on choice.now)) (word_of result) out.old out.new }
 {
-    let c = match choice::read_choice(choice, ends.count) {
-        ChoiceAnswer::Good(c) => c,
-        ChoiceAnswer::Refused(number, place) => return wire::pack(number, place, 0),
-    };
+    let c = choice::read_choice(choice, ends.count)?;
     let mut kept = fields.kept;
-    if let Judged::Refused(number, place) = choice_judge::judge(t, table, offers, ends, kept, c) {
-        return wire::pack(number, place, 0);
-    }
+    choice_judge::judge(t, table, offers, ends, kept, c)?;
     let made = ends_masks::all_makers(&ends.makers, ends.count, c);
     let spent = step_spend::spent_edges(&offers.last, &offers.parents, offers.count, made);
     let bringing = step_gain::bringing(&offers.has, &ends.row, ends.count, c);

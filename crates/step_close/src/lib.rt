@@ -29,12 +29,10 @@ fn is_closing(t: &[u8], table: Table, target: &[u8], n: usize, c: u32) -> bool
     requires { Spans t.now table × (n ≤ length target.now) × ((k : ℕ) → k < n → at target.now k < table.nodes) × (n ≤ limits.most_ends) }
     ensures { result ≡ closes t.now target.now n c }
 {
-    let mut k: usize = 0;
-    while k < n {
+    for k in 0..n {
         if is_last(t, table, target, c, k) {
             return true;
         }
-        k += 1;
     }
     false
 }
@@ -45,15 +43,12 @@ fn clear_nodes(t: &[u8], table: Table, kept: &mut [u8], more: &mut [u8], runs: &
     ensures { Emptied t.now kept.old more.old runs.old
         kept.new more.new runs.new table.nodes }
 {
-    let n = table.nodes;
-    let mut i: usize = 0;
-    while i < n {
+    for i in 0..table.nodes {
         if table.kind(t, i) != Table::OUTGOING {
             kept[i] = 0;
             more[i] = 0;
         }
         runs[i] = 0;
-        i += 1;
     }
 }
 
@@ -62,11 +57,8 @@ fn clear_edges(table: Table, tokens: &mut [u8])
     requires { table.edges ≤ length tokens.old }
     ensures { Filled (λ j. 0) tokens.old tokens.new table.edges }
 {
-    let n = table.edges;
-    let mut j: usize = 0;
-    while j < n {
+    for j in 0..table.edges {
         tokens[j] = 0;
-        j += 1;
     }
 }
 

@@ -41,12 +41,10 @@ pub fn bringing(valued: &[u8], row: &[u8], n: usize, c: u32) -> u32
     ensures { Marks (λ k. has c k && not (eqb (at valued.now (at row.now k)) 0)) n result }
 {
     let mut w: u32 = 0;
-    let mut k: usize = 0;
-    while k < n {
+    for k in 0..n {
         if brings_value(valued[wire::wide(row[k])], c, k) {
             w = w | words::end_of(k);
         }
-        k += 1;
     }
     w
 }
@@ -98,10 +96,8 @@ fn gain_node<'a>(
     ensures { (result ≡ length (coming target.now row.now value.now w n i)) × (extra.new ≡ sets extra.old place (gather four (coming target.now row.now value.now w n i))) }
 {
     let mut many: usize = 0;
-    let mut k: usize = 0;
-    while k < n {
+    for k in 0..n {
         many += gain_end(target, row, value, w, i, k, extra, place + 4 * many);
-        k += 1;
     }
     many
 }
@@ -111,10 +107,8 @@ fn mark_column(column: &[u8], n: usize, c: u32, marks: &mut [u8])
     requires { (n ≤ length column.now) × (n ≤ limits.most_ends) }
     ensures { (p : ℕ → Bool) (most : ℕ) → most ≤ length marks.old → MarksOf p most marks.old → MarksOf (λ i. p i || placed (has c) (at column.now) n i) most marks.new }
 {
-    let mut k: usize = 0;
-    while k < n {
+    for k in 0..n {
         words::mark(marks, choice::is_taken(c, k), wire::wide(column[k]));
-        k += 1;
     }
 }
 
@@ -138,8 +132,7 @@ pub fn gain(
     let mut reached = [0u8; Table::MOST_NODES];
     mark_column(&ends.target, n, w, &mut reached);
     let mut to: usize = 0;
-    let mut i: usize = 0;
-    while i < nodes {
+    for i in 0..nodes {
         let mut many: usize = 0;
         if reached[i] != 0 {
             many = gain_node(&ends.target, &ends.row, value, w, n, i, extra, to);
@@ -147,7 +140,6 @@ pub fn gain(
         place[i] = to as u16;
         more[i] = many as u8;
         to += 4 * many;
-        i += 1;
     }
 }
 
@@ -183,10 +175,7 @@ pub fn run(t: &[u8], table: Table, ends: Ends, c: u32, runs: &mut [u8])
     ensures { Started (starts t.now ends.target ends.home ends.count c) runs.old runs.new table.nodes }
 {
     let touched = touched_nodes(&ends.target, &ends.home, ends.count, c);
-    let n = table.nodes;
-    let mut i: usize = 0;
-    while i < n {
+    for i in 0..table.nodes {
         runs[i] = runs_then(table.kind(t, i), touched[i], runs[i]);
-        i += 1;
     }
 }

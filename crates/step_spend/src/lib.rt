@@ -35,10 +35,8 @@ pub fn spent_edges<'a>(
     ensures { MarksOf (spends last.now parents.now rows w) limits.most_edges result }
 {
     let mut spent = [0u8; Table::MOST_EDGES];
-    let mut y: usize = 0;
-    while y < rows {
+    for y in 0..rows {
         words::mark(&mut spent, is_first(parents[y], w, y), wire::wide(last[y]));
-        y += 1;
     }
     spent
 }
@@ -59,11 +57,8 @@ pub fn spend_tokens(table: Table, spent: &[u8], tokens: &mut [u8])
     ensures { (p : ℕ → Bool) → MarksOf p limits.most_edges spent.now
         → TokensGone p tokens.old tokens.new table.edges }
 {
-    let n = table.edges;
-    let mut e: usize = 0;
-    while e < n {
+    for e in 0..table.edges {
         tokens[e] = tokens_left(spent[e], tokens[e]);
-        e += 1;
     }
 }
 
@@ -73,11 +68,8 @@ fn losing_nodes(t: &[u8], table: Table, spent: &[u8]) -> [u8; Table::MOST_NODES]
     ensures { (p : ℕ → Bool) → MarksOf p limits.most_edges spent.now → MarksOf (loses p t.now) limits.most_nodes result }
 {
     let mut losing = [0u8; Table::MOST_NODES];
-    let n = table.edges;
-    let mut e: usize = 0;
-    while e < n {
+    for e in 0..table.edges {
         words::mark(&mut losing, spent[e] != 0, table.source(t, e));
-        e += 1;
     }
     losing
 }
@@ -126,11 +118,8 @@ pub fn spend_stocks(t: &[u8], table: Table, spent: &[u8], from: &mut [u16], kept
         → OldestGone (loses p t.now) from.old kept.old from.new kept.new table.nodes }
 {
     let losing = losing_nodes(t, table, spent);
-    let n = table.nodes;
-    let mut i: usize = 0;
-    while i < n {
+    for i in 0..table.nodes {
         from[i] = from_left(losing[i], kept[i], from[i]);
         kept[i] = kept_left(losing[i], kept[i]);
-        i += 1;
     }
 }

@@ -1,21 +1,11 @@
--- What the reader of a table answers, and what it knows of the bytes while it reads. Assumes nothing.
+-- What the reader of a table reads, and what it knows of the bytes while it reads. Assumes nothing.
 use Rattle.std.specs.Prelude.{ℕ, ◌≤◌, ◌<◌, ◌≡◌, true, List, length}
-use Rattle.std.proofs.Math.Option.{Option, none, some}
 use Rattle.paper.specs.Lists.{at}
-use Rattle.paper.specs.Answers.{Answer, refused, good, ◌>>=◌}
+use Rattle.paper.specs.Answers.{Answer, good, ◌>>=◌}
 use Rattle.paper.specs.Limits.{Limits as Paper, limits_for, limits}
 use Rattle.paper.specs.Table.{nodes, edges, edge_at, node_fine, edge_fine, table_fine}
 use Rattle.table.specs.declared.Table.{Table}
 use Rattle.table.specs.declared.Limits.{Limits}
-use Rattle.table.specs.declared.TableAnswer.{TableAnswer}
-use Rattle.table.specs.declared.TableAnswer.TheVariants.{Good, Refused}
-use Rattle.table.specs.declared.Found.{Found}
-use Rattle.table.specs.declared.Found.TheVariants.{At, Nothing}
-
--- the number and the place of each answer
-abbrev pub said : TableAnswer → Answer Table
-said (Good x) = good x
-said (Refused n p) = refused n p
 
 abbrev pub counts_of : List ℕ → Table
 counts_of t = record { nodes = nodes t; edges = edges t }
@@ -37,11 +27,6 @@ under l = limits_for l.nodes l.edges limits.longest_marking
 pub record Holdable (l : Limits) : Type 0 where
   pub nodes_hold : l.nodes ≤ limits.most_nodes
   pub edges_hold : l.edges ≤ limits.most_edges
-
--- the place of each answer of a search
-abbrev pub found : Found → Option ℕ
-found (At i) = some i
-found Nothing = none
 
 -- the counts x are those of t, within the limits, and t is as long as they say
 pub record Spans (t : List ℕ) (x : Table) : Type 0 where

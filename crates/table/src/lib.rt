@@ -2,8 +2,8 @@
 // Assumes no more than its `requires`: functions that read fields ask that the bytes span the counts (`Spans`).
 #![tactic(auto)]
 
-ghost use Rattle.std.specs.Prelude.{◌≡◌, ◌||◌, List, ℕ, ◌≤◌, ◌<◌, length};
-ghost use Rattle.paper.specs.Lists.{within};
+ghost use Rattle.std.specs.Prelude.{◌≡◌, ◌||◌, List, ℕ, ◌+◌, ◌≤◌, ◌<◌, length};
+ghost use Rattle.paper.specs.Lists.{at, within};
 ghost use Rattle.paper.specs.Table.{header, nodes, edges, node_at, edge_at, kind, owner, lower, upper, edge_kind, source, target, guarded};
 ghost use Rattle.paper.specs.Table.{is_pin, is_buffer, is_outgoing, is_object_node, is_control_node};
 ghost use Rattle.table.specs.Reading.{Spans};
@@ -21,20 +21,6 @@ pub struct Table {
 pub struct Limits {
     pub nodes: usize,
     pub edges: usize,
-}
-
-// The counts of a good table, or the refusal's number and its place.
-#[derive(Clone, Copy)]
-pub enum TableAnswer {
-    Good(Table),
-    Refused(u8, u8),
-}
-
-// The lowest place that a search looks for.
-#[derive(Clone, Copy)]
-pub enum Found {
-    At(usize),
-    Nothing,
 }
 
 impl Table {
@@ -111,65 +97,90 @@ impl Table {
         Self::HEADER + Self::NODE * self.nodes + Self::EDGE * j
     }
 
+    // Byte f of node i, as a number.
+    fn node_field(self, s: &[u8], i: usize, f: usize) -> usize
+        requires { Spans s.now self × (i < self.nodes) × (f < 4) }
+        ensures { (result ≡ at s.now (node_at s.now i + f)) × (result < 256) }
+    {
+        wire::wide(s[Self::node_at(i) + f])
+    }
+
+    // Byte f of edge j, as a number.
+    fn edge_field(self, s: &[u8], j: usize, f: usize) -> usize
+        requires { Spans s.now self × (j < self.edges) × (f < 4) }
+        ensures { (result ≡ at s.now (edge_at s.now j + f)) × (result < 256) }
+    {
+        wire::wide(s[self.edge_at(j) + f])
+    }
+
     // The fields of node i, each as a number.
+    #[tactic(auto, unfolding(paper::specs::Table::kind))]
     pub fn kind(self, s: &[u8], i: usize) -> usize
         requires { Spans s.now self × (i < self.nodes) }
         ensures { (result ≡ kind s.now i) × (result < 256) }
     {
-        wire::wide(s[Self::node_at(i)])
+        self.node_field(s, i, 0)
     }
 
+    #[tactic(auto, unfolding(paper::specs::Table::owner))]
     pub fn owner(self, s: &[u8], i: usize) -> usize
         requires { Spans s.now self × (i < self.nodes) }
         ensures { (result ≡ owner s.now i) × (result < 256) }
     {
-        wire::wide(s[Self::node_at(i) + 1])
+        self.node_field(s, i, 1)
     }
 
+    #[tactic(auto, unfolding(paper::specs::Table::lower))]
     pub fn lower(self, s: &[u8], i: usize) -> usize
         requires { Spans s.now self × (i < self.nodes) }
         ensures { (result ≡ lower s.now i) × (result < 256) }
     {
-        wire::wide(s[Self::node_at(i) + 2])
+        self.node_field(s, i, 2)
     }
 
+    #[tactic(auto, unfolding(paper::specs::Table::upper))]
     pub fn upper(self, s: &[u8], i: usize) -> usize
         requires { Spans s.now self × (i < self.nodes) }
         ensures { (result ≡ upper s.now i) × (result < 256) }
     {
-        wire::wide(s[Self::node_at(i) + 3])
+        self.node_field(s, i, 3)
     }
 
     // The fields of edge j, each as a number.
+    #[tactic(auto, unfolding(paper::specs::Table::edge_kind))]
     pub fn edge_kind(self, s: &[u8], j: usize) -> usize
         requires { Spans s.now self × (j < self.edges) }
         ensures { (result ≡ edge_kind s.now j) × (result < 256) }
     {
-        wire::wide(s[self.edge_at(j)])
+        self.edge_field(s, j, 0)
     }
 
+    #[tactic(auto, unfolding(paper::specs::Table::source))]
     pub fn source(self, s: &[u8], j: usize) -> usize
         requires { Spans s.now self × (j < self.edges) }
         ensures { (result ≡ source s.now j) × (result < 256) }
     {
-        wire::wide(s[self.edge_at(j) + 1])
+        self.edge_field(s, j, 1)
     }
 
+    #[tactic(auto, unfolding(paper::specs::Table::target))]
     pub fn target(self, s: &[u8], j: usize) -> usize
         requires { Spans s.now self × (j < self.edges) }
         ensures { (result ≡ target s.now j) × (result < 256) }
     {
-        wire::wide(s[self.edge_at(j) + 2])
+        self.edge_field(s, j, 2)
     }
 
+    #[tactic(auto, unfolding(paper::specs::Table::guarded))]
     pub fn guarded(self, s: &[u8], j: usize) -> usize
         requires { Spans s.now self × (j < self.edges) }
         ensures { (result ≡ guarded s.now j) × (result < 256) }
     {
-        wire::wide(s[self.edge_at(j) + 3])
+        self.edge_field(s, j, 3)
     }
 
     // The two counts, which end the header.
+    #[tactic(auto, unfolding(paper::specs::Table::nodes, paper::specs::Table::edges))]
     pub fn counts(s: &[u8]) -> Self
         requires { header s.now ≤ length s.now }
         ensures { (result.nodes ≡ nodes s.now) × (result.edges ≡ edges s.now) × (result.nodes < 256) × (result.edges < 256) }
@@ -219,9 +230,7 @@ pub fn list_incoming(t: &[u8], table: Table, first: &mut [u8], next: &mut [u8])
     requires { Listable t.now table first.old next.old }
     ensures { Incoming t.now first.new next.new }
 {
-    let mut j = table.edges;
-    while 0 < j {
-        j -= 1;
+    for j in (0..table.edges).rev() {
         let i = table.target(t, j);
         next[j] = first[i];
         first[i] = j as u8;

@@ -19,11 +19,8 @@ fn mark_control(s: &[u8], table: Table, marks: &mut [u8])
     requires { Spans s.now table × (table.nodes ≤ length marks.old) }
     ensures { Blank marks.old → AllRanked s.now marks.new 1 }
 {
-    let n = table.nodes;
-    let mut i: usize = 0;
-    while i < n {
+    for i in 0..table.nodes {
         mark(marks, is_control_node(table.kind(s, i)), i);
-        i += 1;
     }
 }
 
@@ -32,17 +29,12 @@ fn list_links(s: &[u8], table: Table, rk: &[u8], links: &mut [u8]) -> usize
     requires { Framed s.now table × AllRanked s.now rk.now 1 × (table.nodes ≤ length rk.now) × (table.edges ≤ length links.old) }
     ensures { (result ≤ table.edges) × Links s.now links.new (edges s.now) result }
 {
-    let e = table.edges;
     let mut n: usize = 0;
-    let mut j: usize = 0;
-    while j < e {
-        if rk[table.source(s, j)] != 0 {
-            if rk[table.target(s, j)] != 0 {
-                links[n] = j as u8;
-                n += 1;
-            }
+    for j in 0..table.edges {
+        if rk[table.source(s, j)] != 0 && rk[table.target(s, j)] != 0 {
+            links[n] = j as u8;
+            n += 1;
         }
-        j += 1;
     }
     n
 }
@@ -51,10 +43,7 @@ fn list_links(s: &[u8], table: Table, rk: &[u8], links: &mut [u8]) -> usize
 fn next_rank(r: u8) -> u8
     ensures { NextRank r result }
 {
-    if r < HIGHEST {
-        return r + 1;
-    }
-    HIGHEST
+    if r < HIGHEST { r + 1 } else { HIGHEST }
 }
 
 // Each of the n links lifts the rank of its target above that of its source; whether a rank has changed. Chains that are told apart grow by one or more.
@@ -63,8 +52,7 @@ fn lift(s: &[u8], table: Table, links: &[u8], n: usize, rk: &mut [u8]) -> bool
     ensures { (k : ℕ) → 1 ≤ k → k < limits.chain_too_long → AllRanked s.now rk.old k → AllRanked s.now rk.new (k + 1) × (result ≡ false → AllRanked s.now rk.new limits.chain_too_long) }
 {
     let mut any = false;
-    let mut x: usize = 0;
-    while x < n {
+    for x in 0..n {
         let j = wire::wide(links[x]);
         let i = table.target(s, j);
         let r = next_rank(rk[table.source(s, j)]);
@@ -72,7 +60,6 @@ fn lift(s: &[u8], table: Table, links: &[u8], n: usize, rk: &mut [u8]) -> bool
             rk[i] = r;
             any = true;
         }
-        x += 1;
     }
     any
 }
@@ -86,12 +73,10 @@ pub fn ranks(s: &[u8], table: Table) -> [u8; Table::MOST_NODES]
     mark_control(s, table, &mut rk);
     let mut links = [0u8; Table::MOST_EDGES];
     let n = list_links(s, table, &rk, &mut links);
-    let mut k: usize = 1;
-    while k < Table::CHAIN_TOO_LONG {
+    for k in 1..Table::CHAIN_TOO_LONG {
         if !lift(s, table, &links, n, &mut rk) {
             return rk;
         }
-        k += 1;
     }
     rk
 }

@@ -7,10 +7,12 @@ ghost use Rattle.paper.specs.Lists.{lowest, within};
 ghost use Rattle.paper.specs.Limits.{limits};
 ghost use Rattle.paper.specs.Table.{nodes, edges, kind, is_pin, is_action, is_input, is_object_node, may_leave, may_enter};
 ghost use Rattle.paper.specs.Table.{frame_fine, node_fine, edge_fine};
-ghost use Rattle.table.specs.Reading.{said, read_under, table_read, under, Holdable, found, Spans};
+ghost use Rattle.table.specs.Reading.{read_under, table_read, under, Holdable, Spans};
+ghost use Rattle.wire.specs.Refusals.{said, found};
 
-use table::{Found, Limits, Table, TableAnswer, is_control_node, is_object_node, is_pin, within};
+use table::{Limits, Table, is_control_node, is_object_node, is_pin, within};
 use table_shape::bad_shape;
+use wire::Refusal;
 
 // Whether an edge may leave a node of kind k.
 fn may_leave(object: bool, k: usize) -> bool
@@ -20,9 +22,10 @@ fn may_leave(object: bool, k: usize) -> bool
         return true;
     }
     if object {
-        return within(Table::OUTPUT, Table::INCOMING, k);
+        within(Table::OUTPUT, Table::INCOMING, k)
+    } else {
+        within(Table::INITIAL, Table::ACTION, k)
     }
-    within(Table::INITIAL, Table::ACTION, k)
 }
 
 // Whether an edge may enter a node of kind k.
@@ -42,6 +45,7 @@ fn may_enter(object: bool, k: usize) -> bool
 }
 
 // Row 1, under the limits that are handed.
+#[tactic(auto, unfolding(paper::specs::Table::frame_fine, paper::specs::Table::version))]
 fn frame_fine(s: &[u8], most: Limits) -> bool
     ensures { result ≡ frame_fine s.now (under most) }
 {
@@ -72,34 +76,31 @@ fn owner_fine(s: &[u8], table: Table, k: usize, o: usize) -> bool
     requires { Spans s.now table }
     ensures { result ≡ cond (is_pin k) (ltb o (nodes s.now) && is_action (kind s.now o)) (eqb o 255) }
 {
-    if !is_pin(k) {
-        return o == Table::NO_OWNER;
+    if is_pin(k) {
+        o < table.nodes && table.kind(s, o) == Table::ACTION
+    } else {
+        o == Table::NO_OWNER
     }
-    if table.nodes <= o {
-        return false;
-    }
-    table.kind(s, o) == Table::ACTION
 }
 
 fn upper_fine(k: usize, u: usize) -> bool
     ensures { result ≡ cond (is_object_node k) (within 1 limits.most_upper u) (eqb u 0) }
 {
     if is_object_node(k) {
-        return within(1, Table::MOST_UPPER, u);
+        within(1, Table::MOST_UPPER, u)
+    } else {
+        u == 0
     }
-    u == 0
 }
 
 fn lower_fine(k: usize, l: usize, u: usize) -> bool
     ensures { result ≡ cond (is_input k) (leb l u) (eqb l 0) }
 {
-    if k == Table::INPUT {
-        return l <= u;
-    }
-    l == 0
+    if k == Table::INPUT { l <= u } else { l == 0 }
 }
 
 // Row 2 at node i.
+#[tactic(auto, unfolding(paper::specs::Table::node_fine))]
 fn node_fine(s: &[u8], table: Table, i: usize) -> bool
     requires { Spans s.now table × (i < table.nodes) }
     ensures { result ≡ node_fine s.now limits i }
@@ -119,6 +120,7 @@ fn node_fine(s: &[u8], table: Table, i: usize) -> bool
 }
 
 // Row 3 at edge j.
+#[tactic(auto, unfolding(paper::specs::Table::edge_fine))]
 fn edge_fine(s: &[u8], table: Table, j: usize) -> bool
     requires { Spans s.now table × (j < table.edges) }
     ensures { result ≡ edge_fine s.now j }
@@ -145,60 +147,54 @@ fn edge_fine(s: &[u8], table: Table, j: usize) -> bool
 }
 
 // The lowest node that row 2 refuses.
-fn bad_node(s: &[u8], table: Table) -> Found
+fn bad_node(s: &[u8], table: Table) -> Option<usize>
     requires { Spans s.now table }
     ensures { found result ≡ lowest (λ i. not (node_fine s.now limits i)) (nodes s.now) }
 {
-    let n = table.nodes;
-    let mut i: usize = 0;
-    while i < n {
+    for i in 0..table.nodes {
         if !node_fine(s, table, i) {
-            return Found::At(i);
+            return Some(i);
         }
-        i += 1;
     }
-    Found::Nothing
+    None
 }
 
 // The lowest edge that row 3 refuses.
-fn bad_edge(s: &[u8], table: Table) -> Found
+fn bad_edge(s: &[u8], table: Table) -> Option<usize>
     requires { Spans s.now table }
     ensures { found result ≡ lowest (λ j. not (edge_fine s.now j)) (edges s.now) }
 {
-    let e = table.edges;
-    let mut j: usize = 0;
-    while j < e {
+    for j in 0..table.edges {
         if !edge_fine(s, table, j) {
-            return Found::At(j);
+            return Some(j);
         }
-        j += 1;
     }
-    Found::Nothing
+    None
 }
 
 // The table in the bytes, or the first of rows 1 to 4 that refuses it, under any limits that arrays hold.
-pub fn read_under(s: &[u8], most: Limits) -> TableAnswer
+pub fn read_under(s: &[u8], most: Limits) -> Result<Table, Refusal>
     requires { Holdable most }
     ensures { said result ≡ read_under (under most) s.now }
 {
     if !frame_fine(s, most) {
-        return TableAnswer::Refused(1, 0);
+        return Err(Refusal::Frame);
     }
     let table = Table::counts(s);
-    if let Found::At(i) = bad_node(s, table) {
-        return TableAnswer::Refused(2, i as u8);
+    if let Some(i) = bad_node(s, table) {
+        return Err(Refusal::Node(i as u8));
     }
-    if let Found::At(j) = bad_edge(s, table) {
-        return TableAnswer::Refused(3, j as u8);
+    if let Some(j) = bad_edge(s, table) {
+        return Err(Refusal::Edge(j as u8));
     }
-    if let Found::At(i) = bad_shape(s, table) {
-        return TableAnswer::Refused(4, i as u8);
+    if let Some(i) = bad_shape(s, table) {
+        return Err(Refusal::Shape(i as u8));
     }
-    TableAnswer::Good(table)
+    Ok(table)
 }
 
 // Under today's.
-pub fn read(s: &[u8]) -> TableAnswer
+pub fn read(s: &[u8]) -> Result<Table, Refusal>
     ensures { said result ≡ table_read s.now }
 {
     read_under(

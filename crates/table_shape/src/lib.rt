@@ -6,11 +6,12 @@ ghost use Rattle.std.specs.Prelude.{◌≡◌, false, not, ◌&&◌, List, ℕ, 
 ghost use Rattle.paper.specs.Lists.{at, lowest, one_if};
 ghost use Rattle.paper.specs.Limits.{limits};
 ghost use Rattle.paper.specs.Table.{nodes, edges, kind, lower, is_input, shape_fine, chain};
-ghost use Rattle.table.specs.Reading.{found, Spans, NodesFine, EdgesFine, Blank};
+ghost use Rattle.wire.specs.Refusals.{found};
+ghost use Rattle.table.specs.Reading.{Spans, NodesFine, EdgesFine, Blank};
 ghost use Rattle.table_shape.specs.Shape.{Counts, degrees_at, Tallied, is_fed, Fed};
 ghost use Rattle.table_shape.specs.Shape.{of_one_kind, split_fine, meets_in, merge_fine, join_shape, action_shape};
 
-use table::{Found, Table, is_control_node};
+use table::{Table, is_control_node};
 use words::mark;
 
 // How many edges of each kind stand on one side of a node.
@@ -55,7 +56,7 @@ fn bump(cells: &mut [u8], c: usize)
     requires { (c < length cells.old) × (at cells.old c < 255) }
     ensures { cells.new ≡ set cells.old c (at cells.old c + 1) }
 {
-    cells[c] = cells[c] + 1;
+    cells[c] += 1;
 }
 
 // Every edge is counted once at its target and once at its source.
@@ -63,13 +64,10 @@ fn tally(s: &[u8], table: Table, cells: &mut [u8])
     requires { Spans s.now table × EdgesFine s.now × (4 * table.nodes ≤ length cells.old) × Blank cells.old }
     ensures { Tallied s.now cells.new }
 {
-    let e = table.edges;
-    let mut j: usize = 0;
-    while j < e {
+    for j in 0..table.edges {
         let k = table.edge_kind(s, j);
         bump(cells, Degrees::CELLS * table.target(s, j) + k);
         bump(cells, Degrees::CELLS * table.source(s, j) + 2 + k);
-        j += 1;
     }
 }
 
@@ -78,10 +76,7 @@ fn feeds(s: &[u8], table: Table, i: usize) -> bool
     requires { Spans s.now table × (i < table.nodes) }
     ensures { result ≡ is_input (kind s.now i) && leb 1 (lower s.now i) }
 {
-    if table.kind(s, i) != Table::INPUT {
-        return false;
-    }
-    1 <= table.lower(s, i)
+    table.kind(s, i) == Table::INPUT && 1 <= table.lower(s, i)
 }
 
 // Marks the actions that an input pin feeds.
@@ -89,11 +84,8 @@ fn mark_fed(s: &[u8], table: Table, fed: &mut [u8])
     requires { Spans s.now table × (table.nodes ≤ length fed.old) }
     ensures { Blank fed.old → Fed s.now fed.new }
 {
-    let n = table.nodes;
-    let mut i: usize = 0;
-    while i < n {
+    for i in 0..table.nodes {
         mark(fed, feeds(s, table, i), table.owner(s, i));
-        i += 1;
     }
 }
 
@@ -108,63 +100,40 @@ fn degree(side: Side) -> usize
 fn has_one_kind(d: Degrees) -> bool
     ensures { (t : List ℕ) (i : ℕ) → Counts t i d → result ≡ of_one_kind t i }
 {
-    if wire::wide(d.into.control) + wire::wide(d.out.control) == 0 {
-        return true;
-    }
-    wire::wide(d.into.object) + wire::wide(d.out.object) == 0
+    wire::wide(d.into.control) + wire::wide(d.out.control) == 0
+        || wire::wide(d.into.object) + wire::wide(d.out.object) == 0
 }
 
 // A decision or a fork: one edge in, some out.
 fn split_fine(d: Degrees) -> bool
     ensures { (t : List ℕ) (i : ℕ) → Counts t i d → result ≡ split_fine t i }
 {
-    if degree(d.into) != 1 {
-        return false;
-    }
-    if degree(d.out) < 1 {
-        return false;
-    }
-    has_one_kind(d)
+    degree(d.into) == 1 && 1 <= degree(d.out) && has_one_kind(d)
 }
 
 // What a merge and a join share: some edges in, one out.
 fn meets(d: Degrees) -> bool
     ensures { (t : List ℕ) (i : ℕ) → Counts t i d → result ≡ meets_in t i }
 {
-    if degree(d.into) < 1 {
-        return false;
-    }
-    degree(d.out) == 1
+    1 <= degree(d.into) && degree(d.out) == 1
 }
 
 fn merge_fine(d: Degrees) -> bool
     ensures { (t : List ℕ) (i : ℕ) → Counts t i d → result ≡ merge_fine t i }
 {
-    if !meets(d) {
-        return false;
-    }
-    has_one_kind(d)
+    meets(d) && has_one_kind(d)
 }
 
 fn join_fine(d: Degrees) -> bool
     ensures { (t : List ℕ) (i : ℕ) → Counts t i d → result ≡ join_shape t i }
 {
-    if !meets(d) {
-        return false;
-    }
-    if 1 < d.into.object {
-        return false;
-    }
-    d.out.object == d.into.object
+    meets(d) && d.into.object <= 1 && d.out.object == d.into.object
 }
 
 fn action_fine(d: Degrees, fed: u8) -> bool
     ensures { (t : List ℕ) (i : ℕ) → Counts t i d → fed ≡ one_if (is_fed t i) → result ≡ action_shape t i }
 {
-    if 1 <= d.into.control {
-        return true;
-    }
-    fed == 1
+    1 <= d.into.control || fed == 1
 }
 
 // Row 4 at a node, from its kind, its degrees, its mark and its rank. Most nodes are asked for no more than these two kinds.
@@ -190,22 +159,19 @@ fn shape_fine(k: usize, d: Degrees, fed: u8, rank: u8) -> bool
 }
 
 // The lowest node that row 4 refuses. Edges are counted and nodes ranked once, so that each node is judged from its own cells.
-pub fn bad_shape(s: &[u8], table: Table) -> Found
+pub fn bad_shape(s: &[u8], table: Table) -> Option<usize>
     requires { Spans s.now table × NodesFine s.now × EdgesFine s.now }
     ensures { found result ≡ lowest (λ i. not (shape_fine s.now limits i)) (nodes s.now) }
 {
-    let n = table.nodes;
     let mut cells = [0u8; Degrees::CELLS * Table::MOST_NODES];
     tally(s, table, &mut cells);
     let mut fed = [0u8; Table::MOST_NODES];
     mark_fed(s, table, &mut fed);
     let rk = table_ranks::ranks(s, table);
-    let mut i: usize = 0;
-    while i < n {
+    for i in 0..table.nodes {
         if !shape_fine(table.kind(s, i), degrees_at(&cells, i), fed[i], rk[i]) {
-            return Found::At(i);
+            return Some(i);
         }
-        i += 1;
     }
-    Found::Nothing
+    None
 }

@@ -15,7 +15,7 @@ use Rattle.paper.specs.Offers.{bounds_version, bounds_count, bound_at, bound_edg
 use Rattle.paper.proofs.Bools.{and-true, and_never}
 use Rattle.paper.proofs.Lists.{below_all, all_fails}
 use Rattle.paper.proofs.BoundsLists.{GoodBounds, bounds_rise}
-use Rattle.terms.specs.Terms.{Entries, EntryFound}
+use Rattle.terms.specs.Terms.{Entries}
 
 -- ---- the frame
 abbrev frame : List ℕ → Bool
@@ -85,28 +85,22 @@ module _ {t x : List ℕ} (f : GoodBounds t x) (e n : ℕ) (h : Entries x n) whe
   all_entries : n ≡ bounds_count x
   all_entries = h.counted (omega (arith, f.is-long))
 
-  pub found_here : (k : ℕ) → k < n → bound_edge x k ≡ e → EntryFound x e k
-  found_here k l p = record { one = λ m. p; else = λ m. absurd (omega (arith, m, l, all_entries)) }
+  pub found_here : (k : ℕ) → k < n → bound_edge x k ≡ e → (k < bounds_count x) × (bound_edge x k ≡ e)
+  found_here k l p = (omega (arith, l, all_entries), p)
 
   -- all are below e
-  pub found_none : ((j : ℕ) → j < n → bound_edge x j < e) → EntryFound x e n
-  found_none b = record {
-    one = λ m. absurd (omega (arith, m, all_entries));
-    else = λ m k l p. omega (arith, b k (omega (arith, l, all_entries)), p);
-  }
+  pub found_none : ((j : ℕ) → j < n → bound_edge x j < e) → (k : ℕ) → k < bounds_count x → bound_edge x k ≡ e → ⊥
+  found_none b k l p = omega (arith, b k (omega (arith, l, all_entries)), p)
 
   -- one is above e, and so are those behind it
-  pub found_passed : (k : ℕ) → k < n → ((j : ℕ) → j < k → bound_edge x j < e) → e < bound_edge x k → EntryFound x e n
-  found_passed k m b a = record {
-    one = λ m. absurd (omega (arith, m, all_entries));
-    else = λ q i l p. elim (dec_lt i k) [
-      | yes u ↦ omega (arith, b i u, p)
-      | no u ↦ elim (dec_lt k i) [
-        | yes v ↦ omega (arith, bounds_rise f k i v l, a, p)
-        | no v ↦ let z : i ≡ k = omega arith in omega (arith, a, p, ap (bound_edge x) z)
-      ]
-    ];
-  }
+  pub found_passed : (k : ℕ) → k < n → ((j : ℕ) → j < k → bound_edge x j < e) → e < bound_edge x k → (i : ℕ) → i < bounds_count x → bound_edge x i ≡ e → ⊥
+  found_passed k m b a i l p = elim (dec_lt i k) [
+    | yes u ↦ omega (arith, b i u, p)
+    | no u ↦ elim (dec_lt k i) [
+      | yes v ↦ omega (arith, bounds_rise f k i v l, a, p)
+      | no v ↦ let z : i ≡ k = omega arith in omega (arith, a, p, ap (bound_edge x) z)
+    ]
+  ]
 
 -- ---- fields, as they are read
 module _ (x : List ℕ) where

@@ -5,7 +5,7 @@ use mathlib.Core.Bool.{Bool, true, false, ◌&&◌}
 use mathlib.Core.List.{List}
 use mathlib.Core.Option.{Option, none, some}
 use native.Mathlib.Omega.{arith}
-use lib.Dec.{eqb}
+use borrow.Author.Tests.{eq-eqb, ne_eqb}
 use lib.ListN.{length}
 use Rattle.paper.specs.Lists.{at, within}
 use Rattle.paper.specs.Answers.{refused, good}
@@ -13,8 +13,8 @@ use Rattle.paper.specs.Offers.{guards_fine, bounds_fine, bounds_count, bound_edg
 use Rattle.paper.proofs.Ladders.{need-good, need-passed}
 use Rattle.paper.proofs.BoundsLists.{GoodBounds, bounds-good, listed-bounds, unlisted_bounds}
 use Rattle.offers_over.specs.Over.{admitted}
-use Rattle.offers_over.specs.declared.Gate.{Gate}
-use Rattle.terms.specs.Terms.{terms_fine, Entries, EntryFound, Ties}
+use Rattle.offers_over.specs.declared.Gate.TheVariants.{Within}
+use Rattle.terms.specs.Terms.{terms_fine, Ties}
 
 -- ---- the two rows
 module _ (t g x : List ℕ) where
@@ -35,38 +35,32 @@ module _ (t g x : List ℕ) where
   terms-fine h = let r = need-good 7 (guards_fine t g) _ tt h in (r.0, need-passed 18 (bounds_fine t x) (sym r.1))
 
 -- ---- the gate of an edge
-abbrev gate_of : Bool → Bool → ℕ → ℕ → Gate
-gate_of o l a b = record { opened = o; listed = l; low = a; high = b }
-
-module _ {t g x : List ℕ} {goes : ℕ → Option ℕ → Bool} (y : Ties t g x goes) (e : ℕ) (o : Bool) (q : o ≡ eqb (at g e) 1) where
+module _ {t g x : List ℕ} {goes : ℕ → Option ℕ → Bool} (y : Ties t g x goes) (e : ℕ) where
   fine : GoodBounds t x
   fine = bounds-good t x y.fine
 
-  -- an edge that isn't listed
-  free_gate : ((k : ℕ) → k < bounds_count x → bound_edge x k ≡ e → ⊥) → (v : Option ℕ) → goes e v ≡ admitted (gate_of o false 0 0) v
+  -- an edge that its guard closes
+  pub closed_gate : (at g e ≡ 1 → ⊥) → (v : Option ℕ) → goes e v ≡ false
   unfolding goes_over
-  free_gate h v =
-      y.goes-are e v ∙ ap (λ (b : Bool). eqb (at g e) 1 && b) (unlisted_bounds x e h v) ∙ ap (λ (b : Bool). b && true) (sym q) ∙ by v
-    where
-      by : (v : Option ℕ) → o && true ≡ admitted (gate_of o false 0 0) v
-      by none = mathlib.Core.Bool.and-true o
-      by (some v) = refl
+  closed_gate n v = y.goes-are e v ∙ ap (λ (b : Bool). b && in_bounds x e v) (ne_eqb (at g e) 1 n)
 
-  -- nor is any edge in a list that is too short for an entry
-  pub short_gate : length x < 13 → (v : Option ℕ) → goes e v ≡ admitted (gate_of o false 0 0) v
-  short_gate l = free_gate (λ k m z. omega (arith, m, l, fine.is-long))
+  module _ (o : at g e ≡ 1) where
+    by_bounds : (v : Option ℕ) → goes e v ≡ in_bounds x e v
+    unfolding goes_over
+    by_bounds v = y.goes-are e v ∙ ap (λ (b : Bool). b && in_bounds x e v) (eq-eqb (at g e) 1 o)
 
-  module _ (n k : ℕ) (h : Entries x n) (found : (t : List ℕ) → GoodBounds t x → EntryFound x e k) where
-    all_entries : n ≡ bounds_count x
-    all_entries = h.counted (omega (arith, fine.is-long))
+    -- an edge that isn't listed
+    pub unlisted_gate : ((k : ℕ) → k < bounds_count x → bound_edge x k ≡ e → ⊥) → (v : Option ℕ) → goes e v ≡ true
+    unlisted_gate h v = by_bounds v ∙ unlisted_bounds x e h v
 
-    pub unlisted_gate : n ≤ k → (v : Option ℕ) → goes e v ≡ admitted (gate_of o false 0 0) v
-    unlisted_gate l = free_gate ((found t fine).else (omega (arith, l, all_entries)))
+    -- nor is any edge in a list that is too short for an entry
+    pub short_gate : length x < 13 → (v : Option ℕ) → goes e v ≡ true
+    short_gate l = unlisted_gate (λ k m z. omega (arith, m, l, fine.is-long))
 
-    pub listed_gate : (a b : ℕ) → a ≡ low x k → b ≡ high x k → k < n → (v : Option ℕ) → goes e v ≡ admitted (gate_of o true a b) v
-    unfolding goes_over in_bounds
-    listed_gate a b p r l none = y.goes-are e none ∙ mathlib.Core.Bool.and-true (eqb (at g e) 1) ∙ sym q
-    listed_gate a b p r l (some v) =
-        let m : k < bounds_count x = omega (arith, l, all_entries) in
-        let s : in_bounds x e (some v) ≡ within (low x k) (high x k) v = subst (λ (j : ℕ). in_bounds x j (some v) ≡ within (low x k) (high x k) v) ((found t fine).one m) (listed-bounds fine k m v) in
-        y.goes-are e (some v) ∙ ap (λ (c : Bool). eqb (at g e) 1 && c) (s ∙ rw (p, r)) ∙ ap (λ (c : Bool). c && within a b v) (sym q)
+    pub listed_gate : (k : ℕ) → (k < bounds_count x) × (bound_edge x k ≡ e) → (a b : ℕ) → a ≡ low x k → b ≡ high x k
+        → (v : Option ℕ) → goes e v ≡ admitted (Within a b) v
+    unfolding in_bounds
+    listed_gate k h a b p r none = by_bounds none
+    listed_gate k h a b p r (some v) =
+        let s : in_bounds x e (some v) ≡ within (low x k) (high x k) v = subst (λ (j : ℕ). in_bounds x j (some v) ≡ within (low x k) (high x k) v) h.1 (listed-bounds fine k h.0 v) in
+        by_bounds (some v) ∙ s ∙ rw (p, r)

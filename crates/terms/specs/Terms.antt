@@ -1,14 +1,9 @@
--- What reading guards and bounds answers, in the paper's numbers, the entries of a list, and the gates that guards and bounds stand for. Assumes nothing.
-use Rattle.std.specs.Prelude.{ℕ, ◌+◌, ◌*◌, ◌≤◌, ◌<◌, ◌≡◌, Bool, true, List, length}
+-- What is asked of guards and bounds, the entries of a list, and the gates that guards and bounds stand for. Assumes nothing.
+use Rattle.std.specs.Prelude.{ℕ, ◌+◌, ◌*◌, ◌≤◌, ◌<◌, ◌≡◌, Bool, true, List, length, MatchOption}
+use Rattle.std.specs.Prelude.{Option as Answered}
 use Rattle.std.proofs.Math.Option.{Option}
-use Rattle.paper.specs.Answers.{Answer, refused, good, ◌>>=◌, need}
+use Rattle.paper.specs.Answers.{Answer, ◌>>=◌, need}
 use Rattle.paper.specs.Offers.{guards_fine, bounds_fine, bounds_count, bound_edge, terms, goes_over}
-use Rattle.terms.specs.declared.TermsAnswer.{TermsAnswer}
-use Rattle.terms.specs.declared.TermsAnswer.TheVariants.{Good, Refused}
-
-abbrev pub said : TermsAnswer → Answer (Unit {0})
-said Good = good tt
-said (Refused n p) = refused n p
 
 -- row 7, then row 18
 unfoldable pub terms_fine : List ℕ → List ℕ → List ℕ → Answer (Unit {0})
@@ -22,10 +17,9 @@ pub record Entries (x : List ℕ) (n : ℕ) : Type 0 where
   pub inside : 0 < n → 4 + 9 * n ≤ length x
   pub counted : 4 + 9 * bounds_count x ≤ length x → n ≡ bounds_count x
 
--- r is edge e's entry, or the count where it has none
-pub record EntryFound (x : List ℕ) (e r : ℕ) : Type 0 where
-  pub one : r < bounds_count x → bound_edge x r ≡ e
-  pub else : bounds_count x ≤ r → (k : ℕ) → k < bounds_count x → bound_edge x k ≡ e → ⊥
+-- r is edge e's entry, or none where it has none
+abbrev pub EntryFound : List ℕ → ℕ → Answered ℕ → Type 0
+EntryFound x e r = MatchOption r ((k : ℕ) → k < bounds_count x → bound_edge x k ≡ e → ⊥) (λ k. (k < bounds_count x) × (bound_edge x k ≡ e))
 
 -- goes is what guards g and the good list x say of the edges of t
 pub record Ties (t g x : List ℕ) (goes : ℕ → Option ℕ → Bool) : Type 0 where

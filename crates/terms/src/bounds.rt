@@ -1,6 +1,6 @@
 // Row 18: a bounds list, read by offsets, and the entry of an edge.
 // The table's bytes were read as a table; of a list that wasn't judged no more is read than it has.
-ghost use Rattle.std.specs.Prelude.{◌≡◌, ◌&&◌, List, ℕ, ◌+◌, ◌*◌, ◌≤◌, ◌<◌, eqb, length};
+ghost use Rattle.std.specs.Prelude.{◌≡◌, ◌&&◌, List, ℕ, ◌+◌, ◌*◌, ◌≤◌, ◌<◌, eqb, length, IfSome};
 ghost use Rattle.paper.specs.Bytes.{framed};
 ghost use Rattle.paper.specs.Offers.{bounds_version, bounds_count, bound_at, low as low_of, high as high_of, bound_fine, bounds_fine};
 ghost use Rattle.paper.proofs.BoundsLists.{GoodBounds};
@@ -70,12 +70,10 @@ pub fn bounds_fine(t: &[u8], table: Table, x: &[u8]) -> bool
         return false;
     }
     let n = wide(x[3]);
-    let mut k: usize = 0;
-    while k < n {
+    for k in 0..n {
         if !bound_fine(t, table, x, k) {
             return false;
         }
-        k += 1;
     }
     true
 }
@@ -95,36 +93,28 @@ pub fn entries(x: &[u8]) -> usize
     n
 }
 
-// The entry of edge e among n; n if it has none. Edges rise, so the search ends where they pass e.
-pub fn find(x: &[u8], n: usize, e: usize) -> usize
+// The entry of edge e among n, if it has one. Edges rise, so the search ends where they pass e.
+pub fn find(x: &[u8], n: usize, e: usize) -> Option<usize>
     requires { Entries x.now n }
-    ensures { (t : List ℕ) → GoodBounds t x.now → EntryFound x.now e result }
+    ensures { IfSome result (λ k. k < n) × ((t : List ℕ) → GoodBounds t x.now → EntryFound x.now e result) }
 {
-    let mut k: usize = 0;
-    while k < n {
+    for k in 0..n {
         let f = wide(x[HEADER + ENTRY * k]);
         if e == f {
-            return k;
+            return Some(k);
         }
         if e < f {
-            return n;
+            return None;
         }
-        k += 1;
     }
-    n
+    None
 }
 
-// The bounds of entry k.
-pub fn low(x: &[u8], n: usize, k: usize) -> u32
+// The bounds of entry k, low and high.
+pub fn low_high(x: &[u8], n: usize, k: usize) -> (u32, u32)
     requires { Entries x.now n × (k < n) }
-    ensures { result ≡ low_of x.now k }
+    ensures { (result.0 ≡ low_of x.now k) × (result.1 ≡ high_of x.now k) }
 {
-    read32(x, HEADER + ENTRY * k + LOW)
-}
-
-pub fn high(x: &[u8], n: usize, k: usize) -> u32
-    requires { Entries x.now n × (k < n) }
-    ensures { result ≡ high_of x.now k }
-{
-    read32(x, HEADER + ENTRY * k + HIGH)
+    let from = HEADER + ENTRY * k;
+    (read32(x, from + LOW), read32(x, from + HIGH))
 }

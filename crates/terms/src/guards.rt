@@ -31,12 +31,10 @@ pub fn guards_fine(t: &[u8], table: Table, g: &[u8]) -> bool
     if g.len() != n {
         return false;
     }
-    let mut j: usize = 0;
-    while j < n {
+    for j in 0..n {
         if !guard_fine(t, table, g, j) {
             return false;
         }
-        j += 1;
     }
     true
 }

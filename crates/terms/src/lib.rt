@@ -5,56 +5,44 @@
 mod bounds;
 mod guards;
 
-ghost use Rattle.std.specs.Prelude.{◌≡◌, List, Bool, ℕ, ◌<◌, eqb, length};
+ghost use Rattle.std.specs.Prelude.{◌≡◌, List, Bool, ℕ, ◌<◌, length};
 ghost use Rattle.std.proofs.Math.Option.{Option};
 ghost use Rattle.paper.specs.Lists.{at};
 ghost use Rattle.table.specs.Reading.{Spans};
 ghost use Rattle.offers_over.specs.Over.{admitted};
-ghost use Rattle.terms.specs.Terms.{said, terms_fine, Ties};
+ghost use Rattle.terms.specs.Terms.{terms_fine, Ties};
+ghost use Rattle.wire.specs.Refusals.{said};
 
 use offers_over::Gate;
 use table::Table;
-
-// What reading guards and bounds answers: nothing but that they are fine, or the refusal's number and its place.
-#[derive(Clone, Copy)]
-pub enum TermsAnswer {
-    Good,
-    Refused(u8, u8),
-}
+use wire::Refusal;
 
 // The guards and the bounds, judged: row 7, then row 18.
-pub fn read(t: &[u8], table: Table, g: &[u8], x: &[u8]) -> TermsAnswer
+pub fn read(t: &[u8], table: Table, g: &[u8], x: &[u8]) -> Result<(), Refusal>
     requires { Spans t.now table }
     ensures { said result ≡ terms_fine t.now g.now x.now }
 {
     if !guards::guards_fine(t, table, g) {
-        return TermsAnswer::Refused(7, 0);
+        return Err(Refusal::Guards);
     }
     if !bounds::bounds_fine(t, table, x) {
-        return TermsAnswer::Refused(18, 0);
+        return Err(Refusal::Bounds);
     }
-    TermsAnswer::Good
+    Ok(())
 }
 
-// What edge e lets over by the entries of a list, where `opened` says what its guard does.
-fn bounded(opened: bool, x: &[u8], e: usize) -> Gate
-    ensures { (t g : List ℕ) (goes : ℕ → Option ℕ → Bool) → Ties t g x.now goes → opened ≡ eqb (at g e) 1 → (v : Option ℕ) → goes e v ≡ admitted result v }
+// What edge e lets over by the entries of a list, where its guard lets everything over.
+fn bounded(x: &[u8], e: usize) -> Gate
+    ensures { (t g : List ℕ) (goes : ℕ → Option ℕ → Bool) → Ties t g x.now goes → at g e ≡ 1 → (v : Option ℕ) → goes e v ≡ admitted result v }
 {
     let n = bounds::entries(x);
-    let k = bounds::find(x, n, e);
-    if n <= k {
-        return Gate {
-            opened: opened,
-            listed: false,
-            low: 0,
-            high: 0,
-        };
-    }
-    Gate {
-        opened: opened,
-        listed: true,
-        low: bounds::low(x, n, k) as u64,
-        high: bounds::high(x, n, k) as u64,
+    let Some(k) = bounds::find(x, n, e) else {
+        return Gate::Open;
+    };
+    let (low, high) = bounds::low_high(x, n, k);
+    Gate::Within {
+        low: low as u64,
+        high: high as u64,
     }
 }
 
@@ -63,14 +51,11 @@ pub fn gate(g: &[u8], x: &[u8], e: usize) -> Gate
     requires { e < length g.now }
     ensures { (t : List ℕ) (goes : ℕ → Option ℕ → Bool) → Ties t g.now x.now goes → (v : Option ℕ) → goes e v ≡ admitted result v }
 {
-    let opened = g[e] == 1;
-    if x.len() < bounds::ONE_ENTRY {
-        return Gate {
-            opened: opened,
-            listed: false,
-            low: 0,
-            high: 0,
-        };
+    if g[e] != 1 {
+        return Gate::Closed;
     }
-    bounded(opened, x, e)
+    if x.len() < bounds::ONE_ENTRY {
+        return Gate::Open;
+    }
+    bounded(x, e)
 }

@@ -21,21 +21,48 @@ const LONGEST: usize = 65536;
 // How many calls are answered at most: a program ends.
 const MOST_CALLS: usize = 1000000;
 
-const START: u8 = 1;
+// What a call asks for.
+#[derive(Clone, Copy)]
+enum Operation {
+    Check,
+    Start,
+    Sheet,
+    Pick,
+    Step,
+    Finish,
+    Visits,
+    Why,
+    Levels,
+}
 
-const SHEET: u8 = 2;
+// By its number, check where there is no other.
+impl From<u8> for Operation {
+    fn from(number: u8) -> Operation {
+        match number {
+            1 => Operation::Start,
+            2 => Operation::Sheet,
+            3 => Operation::Pick,
+            4 => Operation::Step,
+            5 => Operation::Finish,
+            6 => Operation::Visits,
+            7 => Operation::Why,
+            8 => Operation::Levels,
+            _ => Operation::Check,
+        }
+    }
+}
 
-const PICK: u8 = 3;
-
-const STEP: u8 = 4;
-
-const FINISH: u8 = 5;
-
-const VISITS: u8 = 6;
-
-const WHY: u8 = 7;
-
-const LEVELS: u8 = 8;
+// What is asked: what an operation doesn't take is empty, and `values` has the guards where it takes these.
+#[derive(Clone, Copy)]
+struct Request<'a> {
+    operation: Operation,
+    node: u8,
+    table: &'a [u8],
+    marking: &'a [u8],
+    values: &'a [u8],
+    bounds: &'a [u8],
+    choice: &'a [u8],
+}
 
 // The level at which why asks what pick does, past the first.
 const LAST: usize = 4;
@@ -82,34 +109,25 @@ fn visited(to: &mut impl Write, states: u64) -> io::Result<()> {
     write!(to, "visits {states}\n")
 }
 
-// The number of states at a level, k levels past the first.
-fn level(
-    to: &mut impl Write,
-    table: &[u8],
-    marking: &[u8],
-    guards: &[u8],
-    bounds: &[u8],
-    node: u8,
-    k: usize,
-) -> io::Result<()> {
-    let states = keshmirun::visits(table, marking, guards, bounds, node, k);
-    write!(to, " {states}")
+// How many states the search of a call visits at a level, k levels past the first.
+fn states(asked: Request, k: usize) -> u64 {
+    keshmirun::visits(
+        asked.table,
+        asked.marking,
+        asked.values,
+        asked.bounds,
+        asked.node,
+        k,
+    )
 }
 
 // The number of states at each level before the last as a line.
-fn climbed(
-    to: &mut impl Write,
-    table: &[u8],
-    marking: &[u8],
-    guards: &[u8],
-    bounds: &[u8],
-    node: u8,
-) -> io::Result<()> {
+fn climbed(to: &mut impl Write, asked: Request) -> io::Result<()> {
     to.write_all(b"levels")?;
-    level(to, table, marking, guards, bounds, node, 0)?;
-    level(to, table, marking, guards, bounds, node, 1)?;
-    level(to, table, marking, guards, bounds, node, 2)?;
-    level(to, table, marking, guards, bounds, node, 3)?;
+    for k in 0..LAST {
+        let n = states(asked, k);
+        write!(to, " {n}")?;
+    }
     to.write_all(b"\n")
 }
 
@@ -126,103 +144,67 @@ fn slice(from: &mut impl Read, space: &mut [u8]) -> io::Result<usize>
     read_full(from, &mut space[..n])
 }
 
-// Answers a call by its operation's number, check where it has no other.
-fn answer(
-    to: &mut impl Write,
-    operation: u8,
-    node: u8,
-    table: &[u8],
-    marking: &[u8],
-    values: &[u8],
-    bounds: &[u8],
-    choice: &[u8],
-    out: &mut [u8],
-) -> io::Result<()> {
-    if operation == START {
-        let word = keshmirun::start(table, values, out);
-        return line(to, word, out);
-    }
-    if operation == SHEET {
-        let word = keshmirun::sheet(table, marking, values, bounds, out);
-        return line(to, word, out);
-    }
-    if operation == PICK {
-        let word = keshmirun::pick(table, marking, values, bounds, node, out);
-        return line(to, word, out);
-    }
-    if operation == STEP {
-        let word = keshmirun::step(table, marking, values, bounds, choice, out);
-        return line(to, word, out);
-    }
-    if operation == FINISH {
-        let word = keshmirun::finish(table, marking, node, values, out);
-        return line(to, word, out);
-    }
-    if operation == VISITS {
-        let states = keshmirun::visits(table, marking, values, bounds, node, LAST);
-        return visited(to, states);
-    }
-    if operation == WHY {
-        let word = keshmirun::why(table, marking, values, bounds, node, out);
-        return line(to, word, out);
-    }
-    if operation == LEVELS {
-        return climbed(to, table, marking, values, bounds, node);
-    }
-    line(to, keshmirun::check(table), out)
+// Answers a call.
+fn answer(to: &mut impl Write, asked: Request, out: &mut [u8]) -> io::Result<()> {
+    let (t, m, v, x) = (asked.table, asked.marking, asked.values, asked.bounds);
+    let word = match asked.operation {
+        Operation::Check => keshmirun::check(t),
+        Operation::Start => keshmirun::start(t, v, out),
+        Operation::Sheet => keshmirun::sheet(t, m, v, x, out),
+        Operation::Pick => keshmirun::pick(t, m, v, x, asked.node, out),
+        Operation::Step => keshmirun::step(t, m, v, x, asked.choice, out),
+        Operation::Finish => keshmirun::finish(t, m, asked.node, v, out),
+        Operation::Why => keshmirun::why(t, m, v, x, asked.node, out),
+        Operation::Visits => return visited(to, states(asked, LAST)),
+        Operation::Levels => return climbed(to, asked),
+    };
+    line(to, word, out)
+}
+
+// Room for what a call lends.
+#[derive(Drop)]
+struct Rooms {
+    table: [u8; LONGEST],
+    marking: [u8; LONGEST],
+    values: [u8; LONGEST],
+    bounds: [u8; LONGEST],
+    choice: [u8; LONGEST],
+    out: [u8; LONGEST],
 }
 
 // Reads a call and answers it; false where there is none left.
-fn call(
-    from: &mut impl Read,
-    to: &mut impl Write,
-    table: &mut [u8],
-    marking: &mut [u8],
-    values: &mut [u8],
-    bounds: &mut [u8],
-    choice: &mut [u8],
-    out: &mut [u8],
-) -> io::Result<bool> {
+fn call(from: &mut impl Read, to: &mut impl Write, rooms: &mut Rooms) -> io::Result<bool> {
     let mut head = [0u8; 4];
     if read_full(from, &mut head)? < 4 {
         return Ok(false);
     }
     let room = wire::wide(head[1]) * 256 + wire::wide(head[2]);
-    let n = slice(from, table)?;
-    let m = slice(from, marking)?;
-    let v = slice(from, values)?;
-    let x = slice(from, bounds)?;
-    let k = slice(from, choice)?;
-    if out.len() < room {
+    let n = slice(from, &mut rooms.table)?;
+    let m = slice(from, &mut rooms.marking)?;
+    let v = slice(from, &mut rooms.values)?;
+    let x = slice(from, &mut rooms.bounds)?;
+    let k = slice(from, &mut rooms.choice)?;
+    if LONGEST < room {
         return Ok(false);
     }
-    answer(
-        to,
-        head[0],
-        head[3],
-        &table[..n],
-        &marking[..m],
-        &values[..v],
-        &bounds[..x],
-        &choice[..k],
-        &mut out[..room],
-    )?;
+    let asked = Request {
+        operation: Operation::from(head[0]),
+        node: head[3],
+        table: &rooms.table[..n],
+        marking: &rooms.marking[..m],
+        values: &rooms.values[..v],
+        bounds: &rooms.bounds[..x],
+        choice: &rooms.choice[..k],
+    };
+    let out = &mut rooms.out[..];
+    answer(to, asked, &mut out[..room])?;
     Ok(true)
 }
 
 // Answers call after call.
-fn run(
-    from: &mut impl Read,
-    to: &mut impl Write,
-    table: &mut [u8],
-    marking: &mut [u8],
-    values: &mut [u8],
-    bounds: &mut [u8],
-    choice: &mut [u8],
-    out: &mut [u8],
-) -> io::Result<()> {
+fn run(from: &mut impl Read, to: &mut impl Write, rooms: &mut Rooms) -> io::Result<()> {
     for _ in 0..MOST_CALLS {
-        if !call(from, to, table, marking, values, bounds, choice, out)? {
+        if !call(from, to, rooms)? {
             break;
         }
     }
@@ -233,20 +215,13 @@ fn run(
 fn main(rt: HostRuntime) -> io::Result<()> {
     let mut from = BufReader::with_capacity(rt.alloc(), AHEAD, rt.stdin())?;
     let mut to = LineWriter::with_capacity(rt.alloc(), AHEAD, rt.stdout())?;
-    let mut table = [0u8; LONGEST];
-    let mut marking = [0u8; LONGEST];
-    let mut values = [0u8; LONGEST];
-    let mut bounds = [0u8; LONGEST];
-    let mut choice = [0u8; LONGEST];
-    let mut out = [0u8; LONGEST];
-    run(
-        &mut from,
-        &mut to,
-        &mut table,
-        &mut marking,
-        &mut values,
-        &mut bounds,
-        &mut choice,
-        &mut out,
-    )
+    let mut rooms = Rooms {
+        table: [0u8; LONGEST],
+        marking: [0u8; LONGEST],
+        values: [0u8; LONGEST],
+        bounds: [0u8; LONGEST],
+        choice: [0u8; LONGEST],
+        out: [0u8; LONGEST],
+    };
+    run(&mut from, &mut to, &mut rooms)
 }

@@ -23,8 +23,7 @@ use Rattle.paper.proofs.Members.{In, in_each, in_below}
 use Rattle.paper.proofs.Reasons.{EndsInside, own_inside, last-level, missing_first}
 use Rattle.paper.proofs.Tables.{GoodTable, table-good}
 use Rattle.offers.specs.declared.Offers.{Offers}
-use Rattle.pick_search.specs.declared.ChoiceFound.{ChoiceFound}
-use Rattle.pick_search.specs.declared.ChoiceFound.TheVariants.{Choice, Nothing}
+use Rattle.std.specs.Prelude.{Option, Some, None, is_some}
 use Rattle.pick_bounds.specs.Net.{held}
 use Rattle.pick_bounds.specs.declared.Wanted.{Wanted}
 use Rattle.ends_masks.specs.Seating.{Stands, served, fits, destinations_fit, no_rivals, forks_whole}
@@ -35,7 +34,7 @@ use Rattle.pick_rules.specs.Rules.{holds}
 use Rattle.pick_rules.proofs.Picking.{roomy}
 use Rattle.pick.specs.Picking.{Answered}
 use Rattle.pick.proofs.Laws.{answered_same}
-use Rattle.why.specs.Reasons.{asks, OwnEnds}
+use Rattle.why.specs.Reasons.{asks, OwnEnds, Whether}
 use Rattle.why.proofs.Own.{own_no_pin, own_destinations}
 
 -- ---- a level on the board
@@ -94,17 +93,21 @@ module _ {t : List ℕ} {d : Board} {o : Offers} {es : Ends} {runs stock : List 
       ∙ and_comm (left asked q c) (taken c) ∙ sym (level-rows c q l)
 
 -- ---- what the search answers of a level
-module _ (asked : List (ℕ → Bool)) (m k : ℕ) (f : ChoiceFound) (a : Answered (left asked k) m f) where
-  pub some-found : (c : ℕ) → f ≡ Choice c → SomeLeft asked m k
+module _ (asked : List (ℕ → Bool)) (m k : ℕ) (f : Option ℕ) (a : Answered (left asked k) m f) where
+  pub some-found : (c : ℕ) → f ≡ Some c → SomeLeft asked m k
   unfolding Answered
   some-found c q = let r : FirstOf (left asked k) m c = rw q at a in (c, r.is_set, r.passes)
 
-  pub none_found : f ≡ Nothing → NoneLeft asked m k
+  pub none_found : f ≡ None → NoneLeft asked m k
   unfolding Answered
   none_found q = let r : (x : ℕ) → x < 2 ^ m → left asked k x ≡ false = rw q at a in r
 
+pub whether-found : (asked : List (ℕ → Bool)) (m k : ℕ) (f : Option ℕ) → Answered (left asked k) m f → (t : Bool) → t ≡ is_some f → Whether asked m k t
+whether-found asked m k (Some c) a t e = rw e (some-found asked m k (Some c) a c refl)
+whether-found asked m k None a t e = rw e (none_found asked m k None a refl)
+
 -- a test that says what the level does
-pub level_answered : (asked : List (ℕ → Bool)) (n m k : ℕ) → n ≡ m → (p : ℕ → Bool) → ((c : ℕ) → p c ≡ left asked k c) → (f : ChoiceFound) → Answered p n f → Answered (left asked k) m f
+pub level_answered : (asked : List (ℕ → Bool)) (n m k : ℕ) → n ≡ m → (p : ℕ → Bool) → ((c : ℕ) → p c ≡ left asked k c) → (f : Option ℕ) → Answered p n f → Answered (left asked k) m f
 level_answered asked n m k e p h f a = subst (λ (x : ℕ). Answered (left asked k) x f) e (answered_same p (left asked k) n h f a)
 
 -- ---- the reason, of what the levels answered
@@ -136,7 +139,7 @@ module _ {t : List ℕ} {d : Board} {o : Offers} {es : Ends} {runs stock : List 
   missing_1 l = named_reason 1 (missing_first d the_table (ends-inside s) node (rw s.seated.table_is l))
 
   -- the last level is what pick wants
-  pub last_answered : (k : ℕ) → k ≤ 4 → 3 < k → (f : ChoiceFound) → Answered (wanted d node) (how_many d) f → Answered (left (levels d node) (suc k)) (how_many d) f
+  pub last_answered : (k : ℕ) → k ≤ 4 → 3 < k → (f : Option ℕ) → Answered (wanted d node) (how_many d) f → Answered (left (levels d node) (suc k)) (how_many d) f
   unfolding levels
   last_answered k l g f a =
       let e : k ≡ 4 = omega arith in
@@ -152,8 +155,8 @@ unfolding levels
 climbed_all d node k e s = rw e at s
 
 -- ---- the byte written
-pub told-one : (out : List ℕ) (byte word : ℕ) → 1 ≤ length out → word ≡ packed 0 0 1 → Reply (in_room (length out) (good (byte ∷ []))) word out (set out 0 byte)
-told-one out byte word l e = reply-full (byte ∷ []) out (set out 0 byte) 1 word refl l e (by out l)
+pub told-one : (out : List ℕ) (byte : ℕ) → 1 ≤ length out → Reply (in_room (length out) (good (byte ∷ []))) (packed 0 0 1) out (set out 0 byte)
+told-one out byte l = reply-full (byte ∷ []) out (set out 0 byte) 1 (packed 0 0 1) refl l refl (by out l)
   where
     by : (out : List ℕ) → 1 ≤ length out → set out 0 byte ≡ (byte ∷ []) ++ drop 1 out
     by [] l = absurd (omega arith)

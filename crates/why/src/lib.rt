@@ -13,14 +13,15 @@ ghost use Rattle.offers.specs.Struct.{Full};
 ghost use Rattle.pick_bounds.specs.Net.{held};
 ghost use Rattle.ends_masks.specs.Seating.{EndsFull};
 ghost use Rattle.pick_rules.specs.Rules.{most_rules, net_cells, Roomy, holds};
+ghost use Rattle.wire.specs.Refusals.{word_of};
 ghost use Rattle.pick.specs.Picking.{Answered};
 ghost use Rattle.why.specs.Reasons.{OnBoard, OwnOnly, OwnEnds, asks, Whether};
 
 use ends_masks::Ends;
 use offers::Offers;
 use pick::Question;
-use pick_search::ChoiceFound;
 use table::Table;
+use wire::Refusal;
 
 // A number that no node and no edge has.
 const NO_ONE: u8 = 255;
@@ -53,10 +54,8 @@ fn leave_own(column: &mut [u8], home: &[u8], n: usize, own: usize)
     requires { (n ≤ length column.old) × (n ≤ length home.now) }
     ensures { OwnOnly column.old home.now n own column.new }
 {
-    let mut k: usize = 0;
-    while k < n {
+    for k in 0..n {
         column[k] = own_entry(column[k], home[k], own);
-        k += 1;
     }
 }
 
@@ -152,7 +151,7 @@ fn find(
     kept: [u8; Table::MOST_NODES],
     node: u8,
     k: usize,
-) -> ChoiceFound
+) -> Option<u32>
     requires { (table_read t.now ≡ good table) × Full offers × EndsFull ends × (length kept ≡ limits.most_nodes) × (node < table.nodes) }
     ensures { k ≤ 4 → OnBoard t.now offers ends kept (λ d. Answered (left (levels d node) (suc k)) (how_many d) result) }
 {
@@ -177,10 +176,7 @@ fn is_left(
     requires { (table_read t.now ≡ good table) × Full offers × EndsFull ends × (length kept ≡ limits.most_nodes) × (node < table.nodes) }
     ensures { k ≤ 4 → OnBoard t.now offers ends kept (λ d. Whether (levels d node) (how_many d) (suc k) result) }
 {
-    match find(t, table, offers, ends, kept, node, k) {
-        ChoiceFound::Nothing => false,
-        ChoiceFound::Choice(_) => true,
-    }
+    find(t, table, offers, ends, kept, node, k).is_some()
 }
 
 // The first level at which none is left, or 0.
@@ -195,12 +191,10 @@ fn climb(
     requires { (table_read t.now ≡ good table) × Full offers × EndsFull ends × (length kept ≡ limits.most_nodes) × (node < table.nodes) }
     ensures { OnBoard t.now offers ends kept (λ d. FirstEmpty (levels d node) (how_many d) result) }
 {
-    let mut k: usize = 0;
-    while k < 5 {
+    for k in 0..5 {
         if !is_left(t, table, offers, ends, kept, node, k) {
             return k as u8 + 1;
         }
-        k += 1;
     }
     0
 }
@@ -251,14 +245,14 @@ pub fn states(
 }
 
 // One byte, if there is room for it (row 17).
-fn tell(byte: u8, out: &mut [u8]) -> u64
-    ensures { Reply (in_room (length out.old) (good (byte ∷ []))) result out.old out.new }
+fn tell(byte: u8, out: &mut [u8]) -> Result<usize, Refusal>
+    ensures { Reply (in_room (length out.old) (good (byte ∷ []))) (word_of result) out.old out.new }
 {
-    if out.len() < 1 {
-        return wire::pack(17, 0, 0);
+    if out.is_empty() {
+        return Err(Refusal::Room);
     }
     out[0] = byte;
-    wire::pack(0, 0, 1)
+    Ok(1)
 }
 
 // why on a board of n ends.
@@ -270,9 +264,9 @@ pub fn why(
     kept: [u8; Table::MOST_NODES],
     node: u8,
     out: &mut [u8],
-) -> u64
+) -> Result<usize, Refusal>
     requires { (table_read t.now ≡ good table) × Full offers × EndsFull ends × (length kept ≡ limits.most_nodes) }
-    ensures { OnBoard t.now offers ends kept (λ d. Leaves (WhyIf (good d) node) result out.old out.new) }
+    ensures { OnBoard t.now offers ends kept (λ d. Leaves (WhyIf (good d) node) (word_of result) out.old out.new) }
 {
     let byte = reason(t, table, offers, ends, kept, node);
     tell(byte, out)

@@ -1,3 +1,3 @@
--- Laws of numbers in bytes and of runs of stores.
+-- Laws of runs of stores.
 pub mod Laws
 pub mod Runs

@@ -1,2 +1,3 @@
--- Sums of what is written.
+-- Sums of what is written, and refusals by name.
+pub mod Refusals
 pub mod Totals

@@ -9,6 +9,7 @@ ghost use Rattle.words.specs.Clash.{one_round_in, hit};
 ghost use Rattle.words.specs.Marks.{is_marked, marked};
 
 // Kinds of nodes, as a table has them.
+// kept: the table has these as usize, and this crate stands below it; cells of offers are u64.
 pub const DECISION: u64 = 8;
 
 pub const JOIN: u64 = 11;
@@ -18,7 +19,7 @@ pub fn bit_of(k: usize) -> u64
     requires { k < 64 }
     ensures { result ≡ 2 ^ k }
 {
-    1u64 << (k as u32)
+    1u64 << k
 }
 
 // The set of end k alone: a choice is a word of 32 digits.
@@ -26,7 +27,7 @@ pub fn end_of(k: usize) -> u32
     requires { k < 32 }
     ensures { result ≡ 2 ^ k }
 {
-    1u32 << (k as u32)
+    1u32 << k
 }
 
 // Whether a word has the number i.
@@ -34,17 +35,14 @@ pub fn in_word(x: u64, i: usize) -> bool
     requires { i < 64 }
     ensures { result ≡ has x i }
 {
-    (x >> (i as u32)) % 2 == 1
+    (x >> i) % 2 == 1
 }
 
 // A mark at i, if the test passes and there is such a place.
 pub fn mark(marks: &mut [u8], on: bool, i: usize)
     ensures { marks.new ≡ marked marks.old on i }
 {
-    if !on {
-        return;
-    }
-    if i < marks.len() {
+    if on && i < marks.len() {
         marks[i] = 1;
     }
 }
@@ -53,43 +51,26 @@ pub fn mark(marks: &mut [u8], on: bool, i: usize)
 pub fn is_marked(marks: &[u8], i: usize) -> bool
     ensures { result ≡ is_marked marks.now i }
 {
-    if marks.len() <= i {
-        return false;
-    }
-    marks[i] != 0
+    i < marks.len() && marks[i] != 0
 }
 
 fn is_object_node(k: u64) -> bool
     ensures { result ≡ is_object_node k }
 {
-    3 <= k && k <= 7
+    matches!(k, 3..=7)
 }
 
 // Whether two offers of a join, made from the offers a and b, may come through together: these differ, and those of them on control edges, c, don't.
 fn one_round(a: u64, b: u64, c: u64) -> bool
     ensures { result ≡ one_round_in a b c }
 {
-    if a == b {
-        return false;
-    }
-    a & c == b & c
+    a != b && a & c == b & c
 }
 
 // Whether an offer that leaves node n, of kind k, from the offers a, clashes with one that leaves m from b; c has the offers on control edges.
 pub fn hits(n: u64, k: u64, a: u64, m: u64, b: u64, c: u64) -> bool
     ensures { result ≡ hit n k a m b c }
 {
-    if n != m {
-        return false;
-    }
-    if is_object_node(k) {
-        return true;
-    }
-    if a & b == 0 {
-        return false;
-    }
-    if k == JOIN {
-        return !one_round(a, b, c);
-    }
-    k == DECISION
+    n == m
+        && (is_object_node(k) || a & b != 0 && (k == DECISION || k == JOIN && !one_round(a, b, c)))
 }

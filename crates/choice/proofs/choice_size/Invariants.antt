@@ -1,12 +1,9 @@
 -- `choice_size` counts the taken ends. Assumes nothing.
-use Prim.Native.Nat.{◌-◌, ◌≤◌}
+use Prim.Native.Nat.{◌≤◌}
 use mathlib.Core.Path.{◌≡◌}
 use lib.ListN.{length}
 use Rattle.choice.specs.Choice.{numbers}
 use Rattle.choice.proofs.choice_size.Given as goal
 
 abbrev pub invariant-loop-k : goal.invariant-loop-k
-invariant-loop-k l = (l.k ≤ l.n) × (l.many ≤ l.k) × (l.many ≡ length (numbers l.c l.k))
-
-abbrev pub decreases-loop-k : goal.decreases-loop-k
-decreases-loop-k l = l.n - l.k
+invariant-loop-k l = (l.many ≤ l.k) × (l.many ≡ length (numbers l.c l.k))

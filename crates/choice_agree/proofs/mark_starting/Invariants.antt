@@ -1,16 +1,8 @@
 -- `mark_starting`: one end after the other. The invariant: the marks are those of the actions to which a taken end belongs of those passed. Assumes nothing.
-use mathlib.Core.Path.{◌≡◌}
-use Prim.Native.Nat.{◌-◌, ◌≤◌}
-use lib.ListN.{length}
 use Rattle.words.specs.Marks.{MarksOf}
 use Rattle.table.specs.Reading.{Blank}
 use Rattle.choice_agree.specs.Agreeing.{starts_in}
 use Rattle.choice_agree.proofs.mark_starting.Given as goal
 
 abbrev pub invariant-loop-k : goal.invariant-loop-k
-invariant-loop-k l =
-    (l.k ≤ l.ends.count) × (length l.starting ≡ length l.initial.starting)
-    × (Blank l.initial.starting → MarksOf (starts_in l.t l.ends.target l.ends.home l.k l.c) l.table.nodes l.starting)
-
-abbrev pub decreases-loop-k : goal.decreases-loop-k
-decreases-loop-k l = l.ends.count - l.k
+invariant-loop-k l = Blank l.initial.starting → MarksOf (starts_in l.t l.ends.target l.ends.home l.k l.c) l.table.nodes l.starting

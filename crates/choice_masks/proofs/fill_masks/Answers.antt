@@ -6,16 +6,13 @@ use Rattle.choice_masks.proofs.Masking.{masked_none, masked_more, masked_all}
 use Rattle.choice_masks.proofs.fill_masks.Goals as goal
 
 pub loop-k-init : goal.loop-k-init
-loop-k-init c = let a = c.args in (search rules, refl, masked_none a.column.now a.masks.now c.requires.0)
+loop-k-init c = let a = c.args in masked_none a.column.now a.masks.now c.requires.0
 
 pub loop-k-preserved : goal.loop-k-preserved
 loop-k-preserved c =
     let l = c.loop-k in
-    let h = masked_more c.args.column.now l.masks l.k c.wide.result c.wide.ensures.0 l.invariant.2 in
-    (search rules, omega (arith, c.add_end.auto, l.invariant.1), rw c.add_end.ensures h)
-
-pub shape_of-masks : goal.shape_of-masks
-shape_of-masks c = c.loop-k.invariant.1
+    let h = masked_more c.args.column.now l.masks l.k c.wide.result c.wide.ensures.0 l.invariant in
+    rw c.add_end.ensures h
 
 pub returns : goal.returns
-returns c = masked_all (omega arith) c.loop-k.invariant.2
+returns c = masked_all (omega arith) c.loop-k.invariant

@@ -1,35 +1,35 @@
 -- `ends::arrange` meets its contract: the rows that are ends are found, and put in order; row 8 if there are too many. Assumes nothing.
-use Prim.Native.Nat.{◌≤◌}
+use mathlib.Core.Path.{◌≡◌}
 use native.Mathlib.Omega.{arith}
-use Rattle.paper.specs.Limits.{limits}
+use Rattle.std.specs.Prelude.{Err}
+use Rattle.std.proofs.lemmas.Result.{err_from_is_err_and}
+use Rattle.wire.specs.declared.Refusal.TheVariants.{Size}
 use Rattle.ends_paths.specs.Blocks.{Slots}
 use Rattle.ends.proofs.Found.{keyed-inside}
 use Rattle.ends.proofs.Arranging.{told-many, told-good}
 use Rattle.ends.proofs.arrange.Goals as goal
 
-pub returns-then-n-gt-MOST_ENDS : goal.returns-then-n-gt-MOST_ENDS
-returns-then-n-gt-MOST_ENDS c =
+pub returns-in_err-n : goal.returns-in_err-n
+returns-in_err-n c =
     let a = c.args in
-    told-many a.t.now a.rows.now a.from.now a.to.now a.show a.ends.now a.order.now a.lens.now a.cells.now
-    (c.collect-n.ensures.many c.if-n-gt-MOST_ENDS.true)
+    let many = c.in_err-n.ensures in
+    let p = err_from_is_err_and c.from_residual.result c.from_residual.ensures.1 in
+    let is : c.from_residual.result ≡ Err Size = cc (p.1, p.2, many.0) in
+    rw is (told-many a.t.now a.rows.now a.from.now a.to.now a.show a.ends.now a.order.now a.lens.now a.cells.now many.1)
 
 pub put_in_order-requires : goal.put_in_order-requires
 put_in_order-requires c =
-    let found-few : c.collect-n.result ≤ limits.most_ends =
-    omega (arith, c.if-n-gt-MOST_ENDS.false) in
     let p = c.requires.1 in
-    let few = found-few in
-    let slots : Slots c.collect-n.new.found c.collect-n.result
-    = record { few = few; there = omega (arith, c.collect-n.auto); rows = λ s l. keyed-inside p.ranges (c.collect-n.ensures.keyed few s l) } in (
-      (p.rows-there, (slots, (omega (arith, c.collect-n.auto), c.collect-n.ensures.grouped few))),
+    let all = c.in_ok-n.ensures in
+    let slots : Slots c.collect.new.found c.in_ok-n.n
+    = record { few = all.few; there = omega (arith, c.collect.auto); rows = λ s l. keyed-inside p.ranges (all.keyed s l) } in (
+      (p.rows-there, (slots, (omega (arith, c.collect.auto), all.grouped))),
       p.rooms,
     )
 
 pub returns : goal.returns
 returns c =
-    let found-few : c.collect-n.result ≤ limits.most_ends =
-    omega (arith, c.if-n-gt-MOST_ENDS.false) in
     let p = c.requires.1 in
-    let few = found-few in
-    told-good (record { few = few; is_found = c.collect-n.ensures.good few; keyed = c.collect-n.ensures.keyed few; ordered = c.put_in_order.ensures })
+    let all = c.in_ok-n.ensures in
+    told-good (record { few = all.few; is_found = all.good; keyed = all.keyed; ordered = c.put_in_order.ensures })
     (omega (arith, c.put_in_order.auto, p.rooms.cells-room))

@@ -1,5 +1,5 @@
 -- `ends::collect` meets its contract: the loop has found the rows of the edges below e, with their keys. Assumes nothing.
-use mathlib.Core.Path.{◌≡◌, sym, ap, ◌∙◌}
+use mathlib.Core.Path.{◌≡◌, refl, sym, ap, ◌∙◌}
 use Prim.Native.Nat.{◌<◌}
 use native.Mathlib.Omega.{arith}
 use borrow.Author.Rules.{rules}
@@ -35,12 +35,6 @@ bounds-to-e c =
 pub overflow_sub-b : goal.overflow_sub-b
 overflow_sub-b c = omega (arith, c.wide-b.ensures.0, c.wide-a.ensures.0, (c.requires.1.0.0 c.loop-e.e).0)
 
-pub shape_of-found-then-n-b-gt-MOST_ENDS : goal.shape_of-found-then-n-b-gt-MOST_ENDS
-shape_of-found-then-n-b-gt-MOST_ENDS c = omega (arith, c.loop-e.invariant, c.if-n-b-gt-MOST_ENDS.true)
-
-pub shape_of-keys-then-n-b-gt-MOST_ENDS : goal.shape_of-keys-then-n-b-gt-MOST_ENDS
-shape_of-keys-then-n-b-gt-MOST_ENDS c = omega (arith, c.loop-e.invariant, c.if-n-b-gt-MOST_ENDS.true)
-
 pub returns-then-n-b-gt-MOST_ENDS : goal.returns-then-n-b-gt-MOST_ENDS
 returns-then-n-b-gt-MOST_ENDS c =
     let a = c.args in
@@ -48,14 +42,11 @@ returns-then-n-b-gt-MOST_ENDS c =
     let l = c.loop-e in
     let s = read-spans a.t.now p.0 in
     let is = ap is_control_node (c.kind.ensures.0 ∙ ap (kind a.t.now) c.target-node.ensures.0) in
-    let ends_here = sym is ∙ sym c.is_control_node.ensures ∙ c.if-not-is_control_node.true in
-    record {
-      good = λ h. absurd (omega arith);
-      keyed = λ h. absurd (omega arith);
-      grouped = λ h. absurd (omega arith);
-      many = λ h. rows-many a.t.now a.from.now a.to.now l.found l.n l.e l.invariant.1.0 ends_here
-          (edges a.t.now) (omega arith) (omega (arith, c.wide-b.ensures.0, c.wide-a.ensures.0));
-    }
+    let ends_here = sym is ∙ sym c.is_control_node.ensures ∙ c.if-not-is_control_node.true in (
+      refl,
+      rows-many a.t.now a.from.now a.to.now l.found l.n l.e l.invariant.1.0 ends_here
+          (edges a.t.now) (omega arith) (omega (arith, c.wide-b.ensures.0, c.wide-a.ensures.0)),
+    )
 
 pub overflow_mul-node : goal.overflow_mul-node
 overflow_mul-node c =
@@ -83,7 +74,7 @@ add_rows-requires c =
     let q = c.requires.1.0.0 c.loop-e.e in
     let x = c.wide-a.ensures.0 in
     let y = c.wide-b.ensures.0 in
-    ((omega arith, omega arith), (omega (arith, c.if-n-b-gt-MOST_ENDS.false), omega (arith, c.if-n-b-gt-MOST_ENDS.false)))
+    ((omega arith, omega arith), (omega (arith, c.if-n-b-gt-MOST_ENDS.false, c.loop-e.auto.found), omega (arith, c.if-n-b-gt-MOST_ENDS.false, c.loop-e.auto.keys)))
 
 pub overflow_sub-n : goal.overflow_sub-n
 overflow_sub-n c =
@@ -91,12 +82,6 @@ overflow_sub-n c =
 
 pub overflow_add-n-then-not-is_control_node : goal.overflow_add-n-then-not-is_control_node
 overflow_add-n-then-not-is_control_node c = omega (arith, c.requires)
-
-pub overflow_add-e : goal.overflow_add-e
-overflow_add-e c = omega (arith, c.loop-e.invariant, c.loop-e-test.true)
-
-pub loop-e-smaller : goal.loop-e-smaller
-loop-e-smaller c = omega arith
 
 pub loop-e-preserved : goal.loop-e-preserved
 loop-e-preserved c =
@@ -113,7 +98,7 @@ loop-e-preserved c =
     let skip = rows_skip a.t.now a.from.now a.to.now l.found l.n l.e l.invariant.1.0 in
     elim c.if-not-is_control_node.branch [
       | then-not-is_control_node+else-n-b-gt-MOST_ENDS w ↦ (
-        ((search rules, rw w.n-is (omega (arith, w.if-n-b-gt-MOST_ENDS.false))), (rw w.found-is (omega (arith, w.add_rows.auto)), rw w.keys-is (omega (arith, w.add_rows.auto)))),
+        rw w.n-is (omega (arith, w.if-n-b-gt-MOST_ENDS.false)),
         (
           rw (w.found-is, w.n-is) (rows_more a.t.now a.from.now a.to.now l.found l.n l.e l.invariant.1.0
               (sym is ∙ sym s ∙ w.if-not-is_control_node.true) w.wide-a.ensures.0 w.wide-b.ensures.0 w.add_rows.ensures),
@@ -125,19 +110,13 @@ loop-e-preserved c =
         ),
       )
       | else-not-is_control_node w ↦ (
-        ((search rules, rw w.n-is (omega arith)), (rw w.found-is (omega arith), rw w.keys-is (omega arith))),
+        rw w.n-is (omega arith),
         (
           rw (w.found-is, w.n-is) (skip (sym is ∙ sym s ∙ w.if-not-is_control_node.false)),
           (rw (w.found-is, w.keys-is, w.n-is) l.invariant.1.1.0, rw (w.keys-is, w.n-is) (rising_skip l.invariant.1.1.1)),
         ),
       )
     ]
-
-pub shape_of-found : goal.shape_of-found
-shape_of-found c = omega (arith, c.loop-e-test.false)
-
-pub shape_of-keys : goal.shape_of-keys
-shape_of-keys c = omega (arith, c.loop-e-test.false)
 
 pub returns : goal.returns
 returns c =
@@ -146,8 +125,8 @@ returns c =
     let s = read-spans a.t.now c.requires.0 in
     let e : l.e ≡ edges a.t.now = omega arith in
     record {
-      good = λ h. l.invariant.1.0 ∙ ap (end_rows a.t.now a.from.now a.to.now) e;
-      keyed = λ h. l.invariant.1.1.0;
-      grouped = λ h. l.invariant.1.1.1.grouped;
-      many = λ h. absurd (omega arith);
+      few = l.invariant.0;
+      good = l.invariant.1.0 ∙ ap (end_rows a.t.now a.from.now a.to.now) e;
+      keyed = l.invariant.1.1.0;
+      grouped = l.invariant.1.1.1.grouped;
     }

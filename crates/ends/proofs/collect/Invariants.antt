@@ -1,7 +1,6 @@
 -- `ends::collect` meets its contract: the loop has found the rows of the edges below e, with their keys. Assumes nothing.
 use mathlib.Core.Path.{◌≡◌}
-use Prim.Native.Nat.{ℕ, ◌-◌, ◌≤◌, ◌<◌}
-use lib.ListN.{length}
+use Prim.Native.Nat.{ℕ, ◌≤◌, ◌<◌}
 use Rattle.paper.specs.Lists.{at}
 use Rattle.paper.specs.Limits.{limits}
 use Rattle.ends_paths.specs.Blocks.{run}
@@ -11,8 +10,5 @@ use Rattle.ends.proofs.collect.Given as goal
 
 abbrev pub invariant-loop-e : goal.invariant-loop-e
 invariant-loop-e l =
-    (((l.e ≤ l.table.edges) × (l.n ≤ limits.most_ends)) × ((length l.found ≡ length l.initial.found) × (length l.keys ≡ length l.initial.keys)))
+    (l.n ≤ limits.most_ends)
     × ((run (at l.found) 0 l.n ≡ end_rows l.t l.from l.to l.e) × (((s : ℕ) → s < l.n → Keyed l.t l.from l.to l.found l.keys s) × Rising l.keys l.n l.e))
-
-abbrev pub decreases-loop-e : goal.decreases-loop-e
-decreases-loop-e l = l.table.edges - l.e

@@ -2,8 +2,6 @@
 use mathlib.Core.Path.{ap}
 use Prim.Native.Nat.{◌+◌, ◌/◌, ◌%◌}
 use native.Mathlib.Omega.{arith}
-use lib.ListN.{length-set}
-use borrow.Author.Rules.{rules}
 use Rattle.paper.specs.Limits.{limits}
 use Rattle.paper.specs.Lists.{at}
 use Rattle.offers.proofs.Cells.{filled}
@@ -12,7 +10,7 @@ use Rattle.ends.specs.Slots.{laid_from}
 use Rattle.ends.proofs.lay_paths.Goals as goal
 
 pub loop-x-init : goal.loop-x-init
-loop-x-init c = (search rules, (search rules, λ j l. absurd (omega arith)))
+loop-x-init c = λ j l. absurd (omega arith)
 
 pub bounds-sorted-wide : goal.bounds-sorted-wide
 bounds-sorted-wide c =
@@ -24,8 +22,7 @@ loop-x-preserved c =
     let l = c.loop-x in
     let a = c.args in
     let new = ap (λ z. at a.sorted.now (first_block z + l.x % limits.most_paths)) c.wide.ensures.0 in
-    let all = filled (λ j. at a.sorted.now (laid_from a.slots.now j)) l.order l.x _ (search rules) new l.invariant.1.1 in
-    (search rules, (simp length-set (omega arith), all))
+    filled (λ j. at a.sorted.now (laid_from a.slots.now j)) l.order l.x _ (omega (arith, l.auto.order)) new l.invariant
 
 pub returns : goal.returns
-returns c = λ j l. c.loop-x.invariant.1.1 j (omega arith)
+returns c = λ j l. c.loop-x.invariant j (omega arith)

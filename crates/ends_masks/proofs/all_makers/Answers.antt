@@ -2,22 +2,21 @@
 use mathlib.Core.Path.{◌≡◌, ap, ◌∙◌}
 use Prim.Native.Nat.{ℕ}
 use native.Mathlib.Omega.{arith}
-use borrow.Author.Rules.{rules}
 use Rattle.ends_masks.specs.Seating.{makes}
 use Rattle.ends_masks.proofs.Masks.{makes_none, makes-more}
 use Rattle.ends_masks.proofs.all_makers.Goals as goal
 
 pub loop-k-init : goal.loop-k-init
-loop-k-init c = (search rules, λ y. makes_none _ _ y)
+loop-k-init c = λ y. makes_none _ _ y
 
 pub loop-k-preserved : goal.loop-k-preserved
 loop-k-preserved c =
     let l = c.loop-k in
     let a = c.args in
-    (search rules, λ y. makes-more a.makers.now a.c l.k l.w _ y (l.invariant.1 y) (c.makers_if_taken-w.ensures y))
+    λ y. makes-more a.makers.now a.c l.k l.w _ y (l.invariant y) (c.makers_if_taken-w.ensures y)
 
 pub returns : goal.returns
 returns c = λ y.
     let a = c.args in
     let e : c.loop-k.k ≡ a.n = omega arith in
-    c.loop-k.invariant.1 y ∙ ap (λ (m : ℕ). makes a.makers.now m a.c y) e
+    c.loop-k.invariant y ∙ ap (λ (m : ℕ). makes a.makers.now m a.c y) e

@@ -1,9 +1,7 @@
 -- `ends_masks::columns` meets its contract: the loop has filled the three columns below k, and their lengths stand. Assumes nothing.
-use mathlib.Core.Path.{◌≡◌, refl, sym, ap, ◌∙◌}
+use mathlib.Core.Path.{◌≡◌, sym, ap, ◌∙◌}
 use Prim.Native.Nat.{◌%◌}
 use native.Mathlib.Omega.{arith}
-use lib.ListN.{length-set}
-use borrow.Author.Rules.{rules}
 use Rattle.paper.specs.Table.{target}
 use Rattle.offers.specs.Rows.{rows_in}
 use Rattle.table.proofs.Reading.{read-spans, target-node}
@@ -11,7 +9,7 @@ use Rattle.ends_masks.proofs.Masks.{columns-none, columns-more}
 use Rattle.ends_masks.proofs.columns.Goals as goal
 
 pub loop-k-init : goal.loop-k-init
-loop-k-init c = (search rules, refl, refl, refl, columns-none _ _ _)
+loop-k-init c = columns-none _ _ _
 
 pub last_of-e-requires : goal.last_of-e-requires
 last_of-e-requires c =
@@ -35,18 +33,13 @@ home_of-requires c =
 pub loop-k-preserved : goal.loop-k-preserved
 loop-k-preserved c =
     let l = c.loop-k in
-    let a = c.args in (
-      search rules,
-      simp length-set l.invariant.1,
-      simp length-set l.invariant.2,
-      simp length-set l.invariant.3,
-      columns-more l.invariant.4 (omega arith) (omega arith) (omega arith)
-          (c.last_of-e.ensures ∙ ap (λ z. ((rows_in a.rows.now 0).entry z).last % 256) c.wide.ensures.0)
-          (c.target-to.ensures.0 ∙ ap (target a.t.now) c.wide-in-loop-k.ensures.0) c.home_of.ensures,
-    )
+    let a = c.args in
+    columns-more l.invariant (omega (arith, l.auto.edge)) (omega (arith, l.auto.target)) (omega (arith, l.auto.home))
+    (c.last_of-e.ensures ∙ ap (λ z. ((rows_in a.rows.now 0).entry z).last % 256) c.wide.ensures.0)
+    (c.target-to.ensures.0 ∙ ap (target a.t.now) c.wide-in-loop-k.ensures.0) c.home_of.ensures
 
 pub returns : goal.returns
 returns c =
     let l = c.loop-k in
     let e : l.k ≡ c.args.n = omega arith in
-    rw (sym e) l.invariant.4
+    rw (sym e) l.invariant

@@ -1,18 +1,16 @@
-use mathlib.Core.Path.{refl}
+-- `ends_masks::made` meets its contract: the test of each number is the one that is promised. Assumes nothing.
+use Prim.Native.Nat.{ℕ}
 use native.Mathlib.Omega.{arith}
-use Rattle.offers.proofs.Sets.{marks_nil}
-use Rattle.ends_masks.proofs.Masks.{marks_fit, marks-all}
 use borrow.Author.Rules.{rules}
+use mathlib.Core.Bool.{not}
+use lib.Bits.{bit_and}
+use lib.Dec.{eqb}
+use Rattle.paper.specs.Lists.{at}
+use Rattle.ends_masks.proofs.Masks.{marks_fit}
 use Rattle.ends_masks.proofs.made.Goals as goal
 
-pub loop-k-init : goal.loop-k-init
-loop-k-init c = (search rules, marks_nil _)
-
-pub loop-k-preserved : goal.loop-k-preserved
-loop-k-preserved c = (search rules, c.mark-w.ensures _ refl c.loop-k.invariant.1)
+pub returns : goal.returns
+returns c = c.passing.ensures (λ (k : ℕ). not (eqb (bit_and (at c.args.makers.now k) c.args.rows) 0)) (λ k on l e. search rules)
 
 pub overflow_cast-result : goal.overflow_cast-result
-overflow_cast-result c = let f = marks_fit c.loop-k.invariant.1 (omega arith) in search rules
-
-pub returns : goal.returns
-returns c = marks-all (omega arith) c.loop-k.invariant.1
+overflow_cast-result c = let f = marks_fit (c.passing.ensures (λ (k : ℕ). not (eqb (bit_and (at c.args.makers.now k) c.args.rows) 0)) (λ k on l e. search rules)) (omega arith) in search rules

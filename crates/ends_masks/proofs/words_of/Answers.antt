@@ -10,7 +10,7 @@ use Rattle.ends_masks.proofs.Masks.{column_more}
 use Rattle.ends_masks.proofs.words_of.Goals as goal
 
 pub loop-k-init : goal.loop-k-init
-loop-k-init c = (search rules, refl, λ j l. absurd (omega arith))
+loop-k-init c = (refl, λ j l. absurd (omega arith))
 
 pub overflow_mul-to : goal.overflow_mul-to
 overflow_mul-to c = let i = c.requires.0.each-inside c.loop-k.k c.loop-k-test.true in omega (arith, c.wide.ensures.0)
@@ -28,11 +28,10 @@ pub loop-k-preserved : goal.loop-k-preserved
 loop-k-preserved c =
     let a = c.args in
     let l = c.loop-k in
-    let r : l.k < length l.to = omega (arith, l.invariant.1) in (
+    let r : l.k < length l.to = omega (arith, l.invariant.0) in (
       search rules,
-      search rules,
-      column_more (λ j. cell a.rows.now (at a.ends.now j) a.i) l.to l.k _ r (ap (λ z. cell a.rows.now z a.i) c.wide.ensures.0) l.invariant.2,
+      column_more (λ j. cell a.rows.now (at a.ends.now j) a.i) l.to l.k _ r (ap (λ z. cell a.rows.now z a.i) c.wide.ensures.0) l.invariant.1,
     )
 
 pub returns : goal.returns
-returns c = (c.loop-k.invariant.1, λ k l. c.loop-k.invariant.2 k (omega arith))
+returns c = (c.loop-k.invariant.0, λ k l. c.loop-k.invariant.1 k (omega arith))

@@ -8,27 +8,9 @@ use Rattle.paper.specs.Lists.{at}
 use Rattle.paper.specs.Table.{edges}
 use Rattle.table.proofs.Reading.{read-spans}
 use Rattle.marking_give.specs.Giving.{fires_as}
-use Rattle.marking_give.proofs.GainLaws.{GainedTo, gained_begin, gained-full, gained-one, gained-none, gained-all, gained-not}
-use borrow.Author.Rules.{rules}
+use Rattle.marking_give.proofs.GainLaws.{GainedTo, gained-full, gained-one, gained-none, gained-all, gained-not}
 use Rattle.marking_give.proofs.gain.Goals as goal
 use Rattle.marking_give.proofs.gain.Goals.{then-gains+else-tokens-j, else-gains}
-
-pub loop-j-init : goal.loop-j-init
-loop-j-init c = let a = c.args in (
-  omega arith,
-  search rules,
-  λ held h small. gained_begin a.t.now (fires_as a.t.now a.firing) held a.tokens.now h small,
-  λ k. (c.type_inv.tokens k).fits,
-)
-
-pub gains-requires : goal.gains-requires
-gains-requires c = let h = c.requires in (h.0, omega arith)
-
-pub bounds-tokens-j : goal.bounds-tokens-j
-bounds-tokens-j c = omega arith
-
-pub shape_of-tokens-then-tokens-j : goal.shape_of-tokens-then-tokens-j
-shape_of-tokens-then-tokens-j c = omega (arith, c.if-tokens-j.true)
 
 pub returns-then-tokens-j : goal.returns-then-tokens-j
 returns-then-tokens-j c = let a = c.args in
@@ -36,17 +18,11 @@ returns-then-tokens-j c = let a = c.args in
     let fires = fires_as a.t.now a.firing in
     let r = read-spans a.t.now c.requires.0 in
     λ held h.
-    let small : (k : ℕ) → at a.tokens.now k < 256 = c.loop-j.invariant.3 in
+    let small : (k : ℕ) → at a.tokens.now k < 256 = c.loop-j.invariant.2 in
     let n : s.j < edges a.t.now = omega (arith, r.edges-read, c.loop-j-test.true) in
     gained-not a.t.now fires held a.tokens.now h small s.tokens s.j n
-    (gained-full a.t.now fires held a.tokens.now h small s.tokens s.j n (s.invariant.2 held h small) c.gains.ensures
+    (gained-full a.t.now fires held a.tokens.now h small s.tokens s.j n (s.invariant.1 held h small) c.gains.ensures
     c.if-gains.true c.if-tokens-j.true)
-
-pub bounds-tokens-j-then-gains-2 : goal.bounds-tokens-j-then-gains-2
-bounds-tokens-j-then-gains-2 c = omega (arith, c.requires)
-
-pub loop-j-smaller : goal.loop-j-smaller
-loop-j-smaller c = omega (arith, c.loop-j-test.true, c.requires)
 
 pub loop-j-preserved : goal.loop-j-preserved
 loop-j-preserved c = let a = c.args in
@@ -56,26 +32,21 @@ loop-j-preserved c = let a = c.args in
     let n : s.j < edges a.t.now = omega (arith, r.edges-read, c.loop-j-test.true) in
     elim c.if-gains.branch [
       | then-gains+else-tokens-j w ↦ (
-        omega arith,
-        ap length w.tokens-is ∙ length-set s.tokens s.j _ ∙ s.invariant.1,
+        ap length w.tokens-is ∙ length-set s.tokens s.j _ ∙ s.invariant.0,
         λ held h small.
             subst (λ (l : List ℕ). GainedTo a.t.now fires held a.tokens.now h small l (s.j + 1)) (sym w.tokens-is)
-            (gained-one a.t.now fires held a.tokens.now h small s.tokens s.j n (s.invariant.2 held h small) c.gains.ensures
+            (gained-one a.t.now fires held a.tokens.now h small s.tokens s.j n (s.invariant.1 held h small) c.gains.ensures
             (omega arith) w.if-gains.true w.if-tokens-j.false),
-        s.invariant.3,
+        s.invariant.2,
       )
       | else-gains w ↦ (
-        omega arith,
-        ap length w.tokens-is ∙ s.invariant.1,
+        ap length w.tokens-is ∙ s.invariant.0,
         λ held h small.
             subst (λ (l : List ℕ). GainedTo a.t.now fires held a.tokens.now h small l (s.j + 1)) (sym w.tokens-is)
-            (gained-none a.t.now fires held a.tokens.now h small s.tokens s.j n (s.invariant.2 held h small) c.gains.ensures w.if-gains.false),
-        s.invariant.3,
+            (gained-none a.t.now fires held a.tokens.now h small s.tokens s.j n (s.invariant.1 held h small) c.gains.ensures w.if-gains.false),
+        s.invariant.2,
       )
     ]
-
-pub shape_of-tokens : goal.shape_of-tokens
-shape_of-tokens c = omega (arith, c.loop-j-test.false)
 
 pub returns : goal.returns
 returns c = let a = c.args in
@@ -84,6 +55,6 @@ returns c = let a = c.args in
     let r = read-spans a.t.now c.requires.0 in
     let e : s.j ≡ edges a.t.now = omega arith in
     λ held h.
-    let small : (k : ℕ) → at a.tokens.now k < 256 = c.loop-j.invariant.3 in
+    let small : (k : ℕ) → at a.tokens.now k < 256 = c.loop-j.invariant.2 in
     gained-all a.t.now fires held a.tokens.now h small s.tokens
-    (subst (λ (j : ℕ). GainedTo a.t.now fires held a.tokens.now h small s.tokens j) e (s.invariant.2 held h small))
+    (subst (λ (j : ℕ). GainedTo a.t.now fires held a.tokens.now h small s.tokens j) e (s.invariant.1 held h small))

@@ -1,5 +1,5 @@
 -- `gain`: one edge after the other, until one is full. Assumes nothing.
-use Prim.Native.Nat.{ℕ, ◌≤◌, ◌<◌, ◌-◌}
+use Prim.Native.Nat.{ℕ, ◌<◌}
 use mathlib.Core.Path.{◌≡◌}
 use lib.ListN.{length}
 use Rattle.paper.specs.Lists.{at}
@@ -8,9 +8,6 @@ use Rattle.marking_give.proofs.GainLaws.{GainedTo}
 use Rattle.marking_give.proofs.gain.Given as goal
 
 abbrev pub invariant-loop-j : goal.invariant-loop-j
-invariant-loop-j l = (l.j ≤ l.n) × (length l.tokens ≡ length l.initial.tokens)
+invariant-loop-j l = (length l.tokens ≡ length l.initial.tokens)
     × ((held : ℕ → ℕ) (h : CountsHeld l.t held l.initial.tokens) (small : (k : ℕ) → at l.initial.tokens k < 256) → GainedTo l.t (fires_as l.t l.firing) held l.initial.tokens h small l.tokens l.j)
     × ((k : ℕ) → at l.initial.tokens k < 256)
-
-abbrev pub decreases-loop-j : goal.decreases-loop-j
-decreases-loop-j l = l.n - l.j

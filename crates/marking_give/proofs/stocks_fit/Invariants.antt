@@ -1,5 +1,5 @@
 -- `stocks_fit`: every stock, one after the other. Assumes nothing.
-use Prim.Native.Nat.{ℕ, ◌≤◌, ◌<◌, ◌-◌}
+use Prim.Native.Nat.{ℕ, ◌<◌}
 use mathlib.Core.Path.{◌≡◌}
 use mathlib.Core.Bool.{true}
 use lib.Dec.{leb}
@@ -8,7 +8,4 @@ use Rattle.marking_give.specs.Giving.{Amounts}
 use Rattle.marking_give.proofs.stocks_fit.Given as goal
 
 abbrev pub invariant-loop-i : goal.invariant-loop-i
-invariant-loop-i l = (l.i ≤ l.n) × ((held : ℕ → ℕ) → Amounts l.t held l.kept l.more → (k : ℕ) → k < l.i → leb (held k) (upper l.t k) ≡ true)
-
-abbrev pub decreases-loop-i : goal.decreases-loop-i
-decreases-loop-i l = l.n - l.i
+invariant-loop-i l = (held : ℕ → ℕ) → Amounts l.t held l.kept l.more → (k : ℕ) → k < l.i → leb (held k) (upper l.t k) ≡ true

@@ -1,11 +1,18 @@
 -- `edge_size` is what an edge's count takes. Assumes nothing.
-use mathlib.Core.Path.{sym, ◌∙◌}
+use mathlib.Core.Path.{◌≡◌, refl}
+use mathlib.Core.Bool.{Bool, true, false}
+use mir.Val.{bool_byte}
 use native.Mathlib.Omega.{arith}
-use Rattle.marking_write.proofs.WritingLaws.{count-size, uncounted_size}
+use Prim.Native.Nat.{◌≤◌}
+use Rattle.paper.specs.Lists.{one_if}
+use Rattle.paper.specs.Marking.{counted}
+use Rattle.marking_write.specs.Writing.{edge_size}
 use Rattle.marking_write.proofs.edge_size.Goals as goal
 
-pub returns-then-has_count : goal.returns-then-has_count
-returns-then-has_count c = let a = c.args in (sym (count-size a.t.now a.j (sym c.has_count.ensures ∙ c.if-has_count.true)), omega arith)
+one-or-none : (b : Bool) → (bool_byte b ≡ one_if b) × (bool_byte b ≤ 1)
+one-or-none true = (refl, omega arith)
+one-or-none false = (refl, omega arith)
 
 pub returns : goal.returns
-returns c = let a = c.args in (sym (uncounted_size a.t.now a.j (sym c.has_count.ensures ∙ c.if-has_count.false)), omega arith)
+unfolding edge_size
+returns c = rw c.has_count.ensures (one-or-none (counted c.args.t.now c.args.j))

@@ -9,19 +9,16 @@ use borrow.Author.Rules.{rules}
 use Rattle.wire.specs.Totals.{total}
 use Rattle.marking_write.proofs.edges_size.Goals as goal
 
-pub overflow_add-taken : goal.overflow_add-taken
-overflow_add-taken c = let s = read-spans c.args.t.now c.requires in search rules
-
 pub loop-j-preserved : goal.loop-j-preserved
 loop-j-preserved c = let a = c.args in
-    (omega arith, omega (arith, total-more (edge_size a.t.now) c.loop-j.j), omega arith)
+    (omega (arith, total-more (edge_size a.t.now) c.loop-j.j), omega arith)
 
 pub returns : goal.returns
 returns c = let a = c.args in
     let s = read-spans a.t.now c.requires in
     let l = c.loop-j in
     let e : l.j ≡ edges a.t.now = omega arith in
-    (rw (← e) l.invariant.1, omega arith)
+    (rw (← e) l.invariant.0, omega arith)
 
 pub loop-j-init : goal.loop-j-init
 unfolding total

@@ -1,4 +1,5 @@
 -- `reply`: row 17, or the nodes' fields, the edges' counts and the head, which are the marking's bytes at the front. Assumes nothing.
+use mathlib.Core.Path.{refl}
 use native.Mathlib.Omega.{arith}
 use Rattle.table.proofs.Reading.{read-spans, nodes_most, edges_most}
 use Rattle.marking_write.specs.Writing.{size_of}
@@ -10,7 +11,7 @@ size-len-requires c = let n = nodes_most c.args.t.now c.requires.0 in
     (c.requires.0, omega (arith, n, c.requires.1.kept-long), omega (arith, n, c.requires.1.more-long))
 
 pub returns-then-out-len : goal.returns-then-out-len
-returns-then-out-len c = λ m h f. short-is h c.args.out.now c.size-len.ensures.0 c.if-out-len.true c.pack.ensures
+returns-then-out-len c = λ m h f. short-is h c.args.out.now c.size-len.ensures.0 c.if-out-len.true refl
 
 pub write_nodes-next-requires : goal.write_nodes-next-requires
 unfolding size_of
@@ -40,4 +41,4 @@ write_edges-requires c = let p = c.requires in (
 pub returns : goal.returns
 returns c = let w = c.write_nodes-next.ensures in
     λ m h f. full_is h c.args.out.now c.size-len.ensures.0 c.if-out-len.false w.0 f w.1 c.write_edges.ensures
-    c.write_head.ensures c.pack-2.ensures
+    c.write_head.ensures refl

@@ -18,17 +18,16 @@ pub loop-j-preserved : goal.loop-j-preserved
 loop-j-preserved c = let a = c.args in
     let l = c.loop-j in
     let w = c.write_edge-to in (
-      omega arith,
       omega (arith, total-more (edge_size a.t.now) l.j),
       omega arith,
-      edge-run a.t.now a.tokens.now a.out.now a.start l.j l.invariant.1 l.invariant.3 (w.ensures.1 a.tokens.now refl),
+      edge-run a.t.now a.tokens.now a.out.now a.start l.j l.invariant.0 l.invariant.2 (w.ensures.1 a.tokens.now refl),
     )
 
 pub returns : goal.returns
 returns c = let s = read-spans c.args.t.now c.requires.0 in
     let l = c.loop-j in
     let e : l.j ≡ edges c.args.t.now = omega arith in
-    rw (← e) l.invariant.3
+    rw (← e) l.invariant.2
 
 pub loop-j-init : goal.loop-j-init
 unfolding total

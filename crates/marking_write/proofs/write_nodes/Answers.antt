@@ -1,5 +1,5 @@
 -- `write_nodes` stores the nodes' fields as one run. The invariant: the fields passed are stored, and the next starts where they end. Assumes nothing.
-use mathlib.Core.Path.{◌≡◌, refl}
+use mathlib.Core.Path.{refl}
 use Rattle.wire.specs.Totals.{total}
 use borrow.Author.Rules.{rules}
 use Rattle.marking_write.proofs.WritingLaws.{size_same, node-inside, node-run}
@@ -21,7 +21,7 @@ write_node-to-requires c =
     let k = c.kind.ensures.0 in
     let e = size_same a.t.now a.kept.now a.more.now l.i k refl refl refl in (
       node-inside a.t.now a.old.now a.extra.now held c.requires.2 l.i h k,
-      omega (arith, e, l.invariant.1, l.invariant.2, c.requires.3, total-room (node_size a.t.now a.kept.now a.more.now) l.i (nodes a.t.now) h),
+      omega (arith, e, l.invariant.0, l.invariant.1, c.requires.3, total-room (node_size a.t.now a.kept.now a.more.now) l.i (nodes a.t.now) h),
     )
 
 pub loop-i-preserved : goal.loop-i-preserved
@@ -34,19 +34,10 @@ loop-i-preserved c =
     let h : l.i < nodes a.t.now = omega (arith, c.requires.0.nodes-read, c.loop-i-test.true) in
     let k = c.kind.ensures.0 in
     let e = size_same a.t.now a.kept.now a.more.now l.i k refl refl refl in (
-      omega (arith, c.loop-i-test.true),
-      omega (arith, e, w.ensures.0, l.invariant.1, total-more (node_size a.t.now a.kept.now a.more.now) l.i),
-      omega (arith, w.auto, l.invariant.2),
-      node-run a.t.now a.old.now a.extra.now held c.requires.2 l.i h k a.out.now l.invariant.1 l.invariant.3 w.ensures.1,
+      omega (arith, e, w.ensures.0, l.invariant.0, total-more (node_size a.t.now a.kept.now a.more.now) l.i),
+      omega (arith, w.auto, l.invariant.1),
+      node-run a.t.now a.old.now a.extra.now held c.requires.2 l.i h k a.out.now l.invariant.0 l.invariant.2 w.ensures.1,
     )
-
-pub shape_of-out : goal.shape_of-out
-shape_of-out c = c.loop-i.invariant.2
-
-pub returns : goal.returns
-returns c = let l = c.loop-i in
-    let e : l.i ≡ nodes c.args.t.now = omega (arith, c.requires.0.nodes-read, l.invariant.0, c.loop-i-test.false) in
-    rw (← e) (l.invariant.1, l.invariant.3)
 
 pub loop-i-init : goal.loop-i-init
 unfolding total

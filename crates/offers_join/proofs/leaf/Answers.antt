@@ -1,6 +1,5 @@
 -- `offers_join::leaf` meets its contract: no room, too many paths, or the joined offer is pushed. Assumes nothing.
-use mathlib.Core.Path.{refl, sym}
-use mathlib.Core.Bool.{false≢true}
+use mathlib.Core.Path.{refl}
 use native.Mathlib.Omega.{arith}
 use borrow.Author.Rules.{rules}
 use Rattle.paper.specs.Offers.{over}
@@ -14,12 +13,7 @@ use Rattle.offers_join.proofs.leaf.Goals as goal
 pub returns-then-count-ge-MOST_OFFERS : goal.returns-then-count-ge-MOST_OFFERS
 returns-then-count-ge-MOST_OFFERS c = (
   search rules,
-  λ t ts ps b p some fr y.
-      let a = c.args in
-      record {
-        good = λ z. absurd (false≢true z);
-        bad = λ z. not-fine _ (omega (arith, len_snoc ts (over (together ps) a.onto.edge), b.count-is, c.if-count-ge-MOST_OFFERS.true));
-      },
+  λ t ts ps b p some fr y. not-fine _ (omega (arith, len_snoc ts (over (together ps) c.args.onto.edge), b.count-is, c.if-count-ge-MOST_OFFERS.true)),
 )
 
 pub returns-then-p-gt-MOST_PATHS : goal.returns-then-p-gt-MOST_PATHS
@@ -29,10 +23,7 @@ returns-then-p-gt-MOST_PATHS c = (
       let a = c.args in
       let w = c.taken-w in
       let g = w.ensures.1 t ts ps b p in
-      record {
-        good = λ z. absurd (false≢true z);
-        bad = λ z. leaf_long t (rows_in w.new.rows a.count) ts ps w.result a.onto g.0 g.1 some y c.if-p-gt-MOST_PATHS.true;
-      },
+      leaf_long t (rows_in w.new.rows a.count) ts ps w.result a.onto g.0 g.1 some y c.if-p-gt-MOST_PATHS.true,
 )
 
 pub returns : goal.returns
@@ -42,9 +33,6 @@ returns c = (
       let a = c.args in
       let w = c.taken-w in
       let g = w.ensures.1 t ts ps b p in
-      record {
-        good = λ z. c.grow.ensures t ts _ g.0
-            (leaf_ready t (rows_in w.new.rows a.count) ts ps w.result a.onto g.0 g.1 some y fr w.result.paths refl c.if-p-gt-MOST_PATHS.false (omega (arith, c.well_formed)) (omega (arith, c.well_formed)));
-        bad = λ z. absurd (false≢true (sym z));
-      },
+      c.grow.ensures t ts _ g.0
+      (leaf_ready t (rows_in w.new.rows a.count) ts ps w.result a.onto g.0 g.1 some y fr w.result.paths refl c.if-p-gt-MOST_PATHS.false (omega (arith, c.well_formed)) (omega (arith, c.well_formed))),
 )

@@ -1,6 +1,6 @@
 -- `offers_join::meet` meets its contract: the search starts with nothing taken and the barred offers blocked. Assumes nothing.
 use mathlib.Core.List.{[]}
-use mathlib.Core.Path.{refl, subst}
+use mathlib.Core.Path.{subst}
 use mathlib.Core.List.{List, ◌++◌}
 use Prim.Native.Nat.{ℕ, ◌≤◌}
 use native.Mathlib.Omega.{arith}
@@ -11,26 +11,22 @@ use Rattle.paper.specs.Limits.{limits}
 use Rattle.paper.specs.Table.{into}
 use Rattle.table.specs.Incoming.{ListFrom}
 use Rattle.table.proofs.Incoming.{some-list}
-use Rattle.offers.specs.Rows.{rows_in, Ranges}
+use Rattle.offers.specs.Rows.{rows_in, Holds, Ranges}
 use Rattle.offers_over.specs.Over.{admitted, Outcome}
-use Rattle.offers_over.proofs.Outcomes.{is_held}
 use Rattle.offers_join.specs.Joins.{Within, Served}
-use Rattle.offers_join.proofs.Meetings.{listed-within, brings_each, brings_nothing, meeting_none, meeting_ways, meeting_dfs}
+use Rattle.offers_join.proofs.Meetings.{listed-within, meeting_none, meeting_ways, meeting_dfs}
 use Rattle.offers_join.proofs.meet.Goals as goal
 
-pub returns-in-Nothing : goal.returns-in-Nothing
-returns-in-Nothing c =
-    let a = c.args in (
-      search rules,
-      λ t ts on y.
-          let nothing = brings_nothing a.from.now a.to.now _ _ _ c.incoming.result (c.incoming.ensures _ y.list) c.in-Nothing.is in
-          is_held refl (meeting_none y nothing) y.holds_ts,
-    )
+pub returns-in_default : goal.returns-in_default
+returns-in_default c = (
+  search rules,
+  λ t ts on y. subst (λ z. Holds t (rows_in c.args.rows.now c.args.count) z) (meeting_none y (c.in_default.ensures _ y.list)) y.holds_ts,
+)
 
 pub spans-wanted-requires : goal.spans-wanted-requires
 spans-wanted-requires c =
     let number : ℕ =
-    c.in-OnEach.d in
+    c.in-Some.d in
     let lo : List ℕ =
     c.incoming.new.lo in
     let hi : List ℕ =
@@ -38,9 +34,7 @@ spans-wanted-requires c =
     let Into : List ℕ → Type 0 =
     λ js. let a = c.args in ListFrom a.next.now (get_or a.first.now a.onto.node 0) js in
     let served : (js : List ℕ) → Into js → (let a = c.args in Served a.from.now a.to.now js lo hi number) =
-    λ js h. let a = c.args in
-    let i = c.incoming in
-    brings_each a.from.now a.to.now js lo hi i.result (i.ensures js h) number c.in-OnEach.is in
+    c.in-Some.ensures in
     let some : (js : List ℕ) × Into js =
     let a = c.args in some-list a.next.now (get_or a.first.now a.onto.node 0) c.requires.1.forward in
     let few : number ≤ limits.most_offers =
@@ -56,7 +50,7 @@ spans-wanted-requires c =
 pub join-requires : goal.join-requires
 join-requires c =
     let number : ℕ =
-    c.in-OnEach.d in
+    c.in-Some.d in
     let lo : List ℕ =
     c.incoming.new.lo in
     let hi : List ℕ =
@@ -64,9 +58,7 @@ join-requires c =
     let Into : List ℕ → Type 0 =
     λ js. let a = c.args in ListFrom a.next.now (get_or a.first.now a.onto.node 0) js in
     let served : (js : List ℕ) → Into js → (let a = c.args in Served a.from.now a.to.now js lo hi number) =
-    λ js h. let a = c.args in
-    let i = c.incoming in
-    brings_each a.from.now a.to.now js lo hi i.result (i.ensures js h) number c.in-OnEach.is in
+    c.in-Some.ensures in
     let some : (js : List ℕ) × Into js =
     let a = c.args in some-list a.next.now (get_or a.first.now a.onto.node 0) c.requires.1.forward in
     let few : number ≤ limits.most_offers =
@@ -95,7 +87,7 @@ join-requires c =
 pub returns : goal.returns
 returns c =
     let number : ℕ =
-    c.in-OnEach.d in
+    c.in-Some.d in
     let lo : List ℕ =
     c.incoming.new.lo in
     let hi : List ℕ =
@@ -103,16 +95,14 @@ returns c =
     let Into : List ℕ → Type 0 =
     λ js. let a = c.args in ListFrom a.next.now (get_or a.first.now a.onto.node 0) js in
     let served : (js : List ℕ) → Into js → (let a = c.args in Served a.from.now a.to.now js lo hi number) =
-    λ js h. let a = c.args in
-    let i = c.incoming in
-    brings_each a.from.now a.to.now js lo hi i.result (i.ensures js h) number c.in-OnEach.is in
+    c.in-Some.ensures in
     let a = c.args in
     let jn = c.join in (
       jn.ensures.0,
       λ t ts on y.
           let sp = c.spans-wanted in
           let v = served _ y.list in
-          subst (λ z. Outcome t (rows_in jn.new.rows jn.result.count) jn.result.ok (ts ++ z)) (meeting_ways y v)
+          subst (λ z. Outcome t jn.new.rows jn.result (ts ++ z)) (meeting_ways y v)
           (jn.ensures.1.1 t (admitted a.gate) ts [] (each on (into t a.onto.node)) sp.result
           (meeting_dfs y v _ _ _ a.count c.barred-blocked.result sp.result y.holds_ts.count-is (c.barred-blocked.ensures t ts y.holds_ts)
           (c.rival_rows.ensures t ts y.holds_ts) sp.ensures)),

@@ -5,7 +5,6 @@ use Prim.Native.Nat.{ℕ, ◌+◌, ◌<◌}
 use native.Mathlib.Omega.{arith}
 use lib.Bits.{bit_or}
 use lib.ListN.{length}
-use borrow.Author.Rules.{rules}
 use Rattle.offers.specs.Sets.{Marks, words_clash}
 use Rattle.offers.specs.Rows.{rows_in, cell}
 use Rattle.offers.proofs.Sets.{marks_nil, marks_skip, marks-more}
@@ -23,7 +22,7 @@ pub bounds-rows-i-2 : goal.bounds-rows-i-2
 bounds-rows-i-2 c = omega arith
 
 pub loop-j-init : goal.loop-j-init
-loop-j-init c = (search rules, marks_nil _)
+loop-j-init c = marks_nil _
 
 pub offset_bounds-rows-j : goal.offset_bounds-rows-j
 offset_bounds-rows-j c = omega arith
@@ -46,19 +45,17 @@ returns c = λ t ts h j lj.
     let a = c.args in
     let i : a.i < length ts = omega (arith, h.count-is, c.requires.0) in
     let u : j < length ts = omega (arith, h.count-is) in
-    l.invariant.1.says j (omega arith) ∙ sym (rows-compete t (rows_in a.rows.now a.count) ts h a.i j i u)
+    l.invariant.says j (omega arith) ∙ sym (rows-compete t (rows_in a.rows.now a.count) ts h a.i j i u)
 
 pub loop-j-preserved : goal.loop-j-preserved
 loop-j-preserved c =
     let l = c.loop-j in
     let a = c.args in
     let p : ℕ → Bool = λ x. words_clash (cell a.rows.now a.i 7) (cell a.rows.now a.i 6) (cell a.rows.now x 7) (cell a.rows.now x 6) in
-    let e = c.compete.ensures in (
-      search rules,
-      elim c.if-compete.branch [
-        | then-compete w ↦ subst (λ d. Marks p (l.j + 1) d) (ap (λ b. bit_or l.d b) (sym w.bit_of-d.ensures) ∙ sym w.d-is)
-            (marks-more p l.j l.d (sym e ∙ w.if-compete.true) l.invariant.1)
-        | else-compete w ↦ subst (λ d. Marks p (l.j + 1) d) (sym w.d-is)
-            (marks_skip p l.j l.d (sym e ∙ w.if-compete.false) l.invariant.1)
-      ],
-    )
+    let e = c.compete.ensures in
+    elim c.if-compete.branch [
+      | then-compete w ↦ subst (λ d. Marks p (l.j + 1) d) (ap (λ b. bit_or l.d b) (sym w.bit_of-d.ensures) ∙ sym w.d-is)
+          (marks-more p l.j l.d (sym e ∙ w.if-compete.true) l.invariant)
+      | else-compete w ↦ subst (λ d. Marks p (l.j + 1) d) (sym w.d-is)
+          (marks_skip p l.j l.d (sym e ∙ w.if-compete.false) l.invariant)
+    ]

@@ -14,48 +14,6 @@ use Rattle.offers.proofs.Rows.{led_holds, leads-more, leads_nil}
 use Rattle.offers_over.proofs.Outcomes.{one_ready}
 use Rattle.offers_over.proofs.extend.Goals as goal
 
-pub paths_of-p-requires : goal.paths_of-p-requires
-paths_of-p-requires c = omega (arith, c.requires)
-
-pub overflow_mul-at : goal.overflow_mul-at
-overflow_mul-at c = omega (arith, c.requires)
-
-pub overflow_add-worth : goal.overflow_add-worth
-overflow_add-worth c = omega (arith, c.requires)
-
-pub offset_bounds-rows-at : goal.offset_bounds-rows-at
-offset_bounds-rows-at c = omega (arith, c.requires)
-
-pub bounds-rows-at : goal.bounds-rows-at
-bounds-rows-at c = omega (arith, c.requires, c.lead.auto)
-
-pub overflow_add-worth-2 : goal.overflow_add-worth-2
-overflow_add-worth-2 c = omega (arith, c.requires)
-
-pub offset_bounds-rows-at-2 : goal.offset_bounds-rows-at-2
-offset_bounds-rows-at-2 c = omega (arith, c.requires)
-
-pub bounds-rows-at-2 : goal.bounds-rows-at-2
-bounds-rows-at-2 c = omega (arith, c.requires, c.lead.auto)
-
-pub overflow_add-m : goal.overflow_add-m
-overflow_add-m c = omega (arith, c.requires)
-
-pub offset_bounds-rows-at-3 : goal.offset_bounds-rows-at-3
-offset_bounds-rows-at-3 c = omega (arith, c.requires)
-
-pub bounds-rows-at-3 : goal.bounds-rows-at-3
-bounds-rows-at-3 c = omega (arith, c.requires, c.lead.auto)
-
-pub overflow_add-f : goal.overflow_add-f
-overflow_add-f c = omega (arith, c.requires)
-
-pub offset_bounds-rows-at-4 : goal.offset_bounds-rows-at-4
-offset_bounds-rows-at-4 c = omega (arith, c.requires)
-
-pub bounds-rows-at-4 : goal.bounds-rows-at-4
-bounds-rows-at-4 c = omega (arith, c.requires, c.lead.auto)
-
 pub returns : goal.returns
 returns c = λ t ts b fr y.
     let a = c.args in

@@ -1,8 +1,7 @@
 -- `offers_over::extend_all` meets its contract: the loop has dealt with the offers from a to i. Assumes nothing.
-use mathlib.Core.Path.{◌≡◌}
 use mathlib.Core.List.{List, ◌++◌}
 use Prim.Native.Nat.{ℕ, ◌-◌, ◌≤◌}
-use lib.ListN.{length, take}
+use lib.ListN.{take}
 use Rattle.paper.specs.Offers.{Offer}
 use Rattle.paper.specs.Limits.{limits}
 use Rattle.offers.specs.Rows.{rows_in, Holds}
@@ -11,9 +10,6 @@ use Rattle.offers_over.proofs.extend_all.Given as goal
 
 abbrev pub invariant-loop-i : goal.invariant-loop-i
 invariant-loop-i l =
-    ((l.a ≤ l.i) × (l.i ≤ l.b)) × (((l.count ≤ l.c) × (l.c ≤ limits.most_offers)) × ((length l.rows ≡ length l.initial.rows)
+    ((l.count ≤ l.c) × (l.c ≤ limits.most_offers))
     × ((t : List ℕ) (ts xs : List Offer) → Ext t (rows_in l.initial.rows l.count) ts xs l.a l.b l.onto (admitted l.gate)
-    → Holds t (rows_in l.rows l.c) (ts ++ overs l.onto.edge (let_over (admitted l.gate) (take (l.i - l.a) xs))))))
-
-abbrev pub decreases-loop-i : goal.decreases-loop-i
-decreases-loop-i l = l.b - l.i
+    → Holds t (rows_in l.rows l.c) (ts ++ overs l.onto.edge (let_over (admitted l.gate) (take (l.i - l.a) xs))))

@@ -1,8 +1,9 @@
 -- `offers_over::extend_one` meets its contract: the offer is barred, there is no room, or it is extended. Assumes nothing.
-use mathlib.Core.Path.{refl, sym, ◌∙◌}
+use mathlib.Core.Path.{sym, ◌∙◌, subst}
+use Prim.Native.Nat.{◌+◌}
 use native.Mathlib.Omega.{arith}
 use borrow.Author.Rules.{rules}
-use Rattle.offers_over.proofs.Outcomes.{is_held, too_many}
+use Rattle.offers.specs.Rows.{rows_in, Holds}
 use Rattle.offers_over.proofs.Parts.{one_barred, one-is, one-fresh, one-full}
 use Rattle.offers_over.proofs.extend_one.Goals as goal
 
@@ -11,7 +12,7 @@ returns-then-not-admits c = (
   search rules,
   λ t ts x y.
       let g = sym c.admits.ensures ∙ c.if-not-admits.true in
-      is_held refl (one_barred y g) y.holds_ts,
+      subst (λ z. Holds t (rows_in c.args.rows.now c.args.count) z) (one_barred y g) y.holds_ts,
 )
 
 pub returns-then-count-ge-MOST_OFFERS : goal.returns-then-count-ge-MOST_OFFERS
@@ -19,7 +20,7 @@ returns-then-count-ge-MOST_OFFERS c = (
   search rules,
   λ t ts x y.
       let g = sym c.admits.ensures ∙ c.if-not-admits.false in
-      too_many refl (one-full y g (omega (arith, y.holds_ts.count-is, c.if-count-ge-MOST_OFFERS.true))),
+      one-full y g (omega (arith, y.holds_ts.count-is, c.if-count-ge-MOST_OFFERS.true)),
 )
 
 pub returns : goal.returns
@@ -27,5 +28,5 @@ returns c = (
   search rules,
   λ t ts x y.
       let g = sym c.admits.ensures ∙ c.if-not-admits.false in
-      is_held refl (one-is y g) (c.extend.ensures t ts y.holds_ts (one-fresh y g) y.leaves),
+      subst (λ z. Holds t (rows_in c.extend.new.rows (c.args.count + 1)) z) (one-is y g) (c.extend.ensures t ts y.holds_ts (one-fresh y g) y.leaves),
 )

@@ -1,11 +1,14 @@
 -- `conclude`: row 13 where nothing was found, or the choice. Assumes nothing.
+use mathlib.Core.Path.{refl}
+use Rattle.paper.specs.Operations.{packed}
+use Rattle.wire.specs.Refusals.{word_of}
 use Rattle.pick.proofs.Laws.{leaves_none, leaves_choice}
 use Rattle.pick.proofs.conclude.Goals as goal
 
-pub returns-in-Nothing : goal.returns-in-Nothing
-returns-in-Nothing c = λ d e w f. let a = c.args in
-    leaves_none d a.node f a.found c.in-Nothing.is w c.pack.result a.out.now c.pack.ensures
+pub returns-in-None : goal.returns-in-None
+returns-in-None c = λ d e w f. let a = c.args in
+    leaves_none d a.node f a.found c.in-None.is w (packed 13 a.node 0) a.out.now refl
 
-pub returns-in-Choice : goal.returns-in-Choice
-returns-in-Choice c = λ d e w f. let a = c.args in
-    leaves_choice d a.node a.found _ a.n c.in-Choice.is e w c.tell.result a.out.now _ c.tell.ensures
+pub returns-in-Some : goal.returns-in-Some
+returns-in-Some c = λ d e w f. let a = c.args in
+    leaves_choice d a.node a.found _ a.n c.in-Some.is e w (word_of c.tell.result) a.out.now _ c.tell.ensures

@@ -1,17 +1,11 @@
 -- `has_least`: none, one, or a count. Assumes nothing.
 use mathlib.Core.Path.{◌≡◌, sym, ap, ◌∙◌}
 use native.Mathlib.Omega.{arith}
-use borrow.Author.Tests.{le-leb}
 use lib.Dec.{leb}
 use Prim.Native.Nat.{ℕ}
 use Rattle.pick_bounds.specs.Net.{held}
 use Rattle.pick_bounds.proofs.Sets.{meets-held}
 use Rattle.pick_bounds.proofs.has_least.Goals as goal
-
-pub returns-then-lo-eq0 : goal.returns-then-lo-eq0
-returns-then-lo-eq0 c = let a = c.args in
-    let z = c.if-lo-eq0.true in
-    sym (le-leb a.lo (held 32 a.c a.d) (omega arith))
 
 pub returns-then-lo-eq1 : goal.returns-then-lo-eq1
 returns-then-lo-eq1 c = let a = c.args in

@@ -1,13 +1,10 @@
 -- `is_apart`: the invariant says that the ends before those left have no rivals in the set. Assumes nothing.
 use mathlib.Core.Path.{sym, ◌∙◌}
 use native.Mathlib.Omega.{arith}
-use Rattle.pick_bounds.proofs.Pruning.{parted-none, parted-more, parted-all, apart-not}
+use Rattle.pick_bounds.proofs.Pruning.{parted-more, parted-all, apart-not}
 use Rattle.pick_bounds.proofs.Sets.{less_left}
 use borrow.Author.Rules.{rules}
 use Rattle.pick_bounds.proofs.is_apart.Goals as goal
-
-pub loop-left-init : goal.loop-left-init
-loop-left-init c = parted-none c.args.net.now c.args.c
 
 pub returns-then-is_rivalled : goal.returns-then-is_rivalled
 returns-then-is_rivalled c = let a = c.args in

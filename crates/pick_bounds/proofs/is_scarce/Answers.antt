@@ -1,14 +1,8 @@
 -- `is_scarce`: one that may be had, or a count. Assumes nothing.
-use mathlib.Core.Path.{refl}
-use mathlib.Core.Bool.{false}
 use native.Mathlib.Omega.{arith}
 use borrow.Author.Tests.{leb-true}
-use Rattle.paper.proofs.Bools.{never}
 use Rattle.pick_bounds.proofs.Sets.{held_itself}
 use Rattle.pick_bounds.proofs.is_scarce.Goals as goal
-
-pub returns-then-least-eq0 : goal.returns-then-least-eq0
-returns-then-least-eq0 c = λ e. never false e refl
 
 pub returns-then-least-eq1 : goal.returns-then-least-eq1
 returns-then-least-eq1 c = λ e. let a = c.args in

@@ -1,12 +1,9 @@
 -- `passes`: the invariant says that the set obeys the rules before i. Assumes nothing.
 use mathlib.Core.Path.{◌≡◌}
 use mathlib.Core.Bool.{true}
-use Prim.Native.Nat.{ℕ, ◌-◌, ◌≤◌, ◌<◌}
+use Prim.Native.Nat.{ℕ, ◌<◌}
 use Rattle.pick_bounds.specs.Net.{obeys, rule_at}
 use Rattle.pick_bounds.proofs.passes.Given as goal
 
 abbrev pub invariant-loop-i : goal.invariant-loop-i
-invariant-loop-i l = (l.i ≤ l.n) × ((j : ℕ) → j < l.i → obeys 32 (rule_at l.net j) l.c ≡ true)
-
-abbrev pub decreases-loop-i : goal.decreases-loop-i
-decreases-loop-i l = l.n - l.i
+invariant-loop-i l = (j : ℕ) → j < l.i → obeys 32 (rule_at l.net j) l.c ≡ true

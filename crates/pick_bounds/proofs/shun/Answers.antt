@@ -1,19 +1,11 @@
 -- `shun`: the invariant says that every set that passes was kept; each turn has one end less. Assumes nothing.
 use mathlib.Core.Path.{sym}
-use Rattle.pick_bounds.specs.Bounds.{good}
-use Rattle.pick_bounds.proofs.Pruning.{keeps_all, keeps_then}
 use Rattle.pick_bounds.proofs.Sets.{less_left}
 use borrow.Author.Rules.{rules}
 use Rattle.pick_bounds.proofs.shun.Goals as goal
 
-pub loop-left-init : goal.loop-left-init
-loop-left-init c = λ want. keeps_all (good c.args.net.now want) c.args.b
-
 pub loop-left-smaller : goal.loop-left-smaller
 loop-left-smaller c = less_left c.loop-left.left c.first_of-k.result c.without-left.result (search rules) c.first_of-k.ensures.1 (rw (sym c.end_of.ensures) c.without-left.ensures)
-
-pub loop-left-preserved : goal.loop-left-preserved
-loop-left-preserved c = λ want. keeps_then (good c.args.net.now want) c.args.b c.loop-left.low c.shun_one-low.result (c.loop-left.invariant want) (c.shun_one-low.ensures want)
 
 pub returns : goal.returns
 returns c = c.loop-left.invariant

@@ -1,15 +1,8 @@
 -- `shun_one`: no set that passes has a rival of an end that it has. Assumes nothing.
 use mathlib.Core.Path.{sym, ◌∙◌}
 use native.Mathlib.Omega.{arith}
-use Rattle.pick_bounds.proofs.Pruning.{keeps_all, shuns}
-use Rattle.pick_bounds.specs.Bounds.{good}
+use Rattle.pick_bounds.proofs.Pruning.{shuns}
 use Rattle.pick_bounds.proofs.shun_one.Goals as goal
-
-pub returns-then-k-ge-ENDS : goal.returns-then-k-ge-ENDS
-returns-then-k-ge-ENDS c = λ want. keeps_all (good c.args.net.now want) c.args.b
-
-pub returns-then-not-meets : goal.returns-then-not-meets
-returns-then-not-meets c = λ want. keeps_all (good c.args.net.now want) c.args.b
 
 pub returns : goal.returns
 returns c = λ want. let a = c.args in

@@ -9,4 +9,4 @@ pub returns : goal.returns
 returns c = let a = c.args in
     let h = c.has_least.ensures in
     λ e. let few = sym h ∙ not-true _ e in
-    forced a.ends a.least a.when c.without-rest.result c.without-rest.ensures (omega (arith, leb-false))
+    forced a.d.ends a.d.least a.when c.without-rest.result c.without-rest.ensures (omega (arith, leb-false))

@@ -10,12 +10,12 @@ returns-then-rule-ge-ALL c = λ e. never false e refl
 
 pub returns-then-rule : goal.returns-then-rule
 returns-then-rule c = let a = c.args in
-    λ e p o f. caps_own p a.rule a.b a.list.now a.count o c.if-rule.true
+    λ e p o f. caps_own p a.rule a.b a.list.now o c.if-rule.true
 
 pub returns-then-meets : goal.returns-then-meets
 returns-then-meets c = let a = c.args in
-    λ e p o f. caps_taken p a.rule a.b a.list.now a.count o (sym c.meets.ensures ∙ c.if-meets.true)
+    λ e p o f. caps_taken p a.rule a.b a.list.now o (sym c.meets.ensures ∙ c.if-meets.true)
 
 pub returns : goal.returns
 returns c = let a = c.args in
-    λ e p o f. caps_roused p a.rule a.b a.list.now a.count o f (c.rouses.ensures e)
+    λ e p o f. caps_roused p a.rule a.b a.list.now o f (c.rouses.ensures e)

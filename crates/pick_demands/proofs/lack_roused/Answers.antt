@@ -4,4 +4,4 @@ use Rattle.pick_demands.proofs.lack_roused.Goals as goal
 
 pub returns : goal.returns
 returns c = let a = c.args in
-    λ p free o f w. asks_roused p a.rule a.b a.list.now a.count o c.lacked.result free f (c.rouses.ensures c.if-not-rouses.false) c.lacked.ensures w
+    λ p free o f w. asks_roused p a.rule a.b a.list.now o c.lacked.result free f (c.rouses.ensures c.if-not-rouses.false) c.lacked.ensures w

@@ -1,13 +1,9 @@
 -- `list_direct`: the invariant says that what is listed is asked for. Assumes nothing.
-use native.Mathlib.Omega.{arith}
 use lib.Bits.{bit_and}
 use borrow.Author.Rules.{rules}
 use Rattle.pick_bounds.specs.Bounds.{good}
 use Rattle.pick_demands.proofs.Demands.{asks-rule}
 use Rattle.pick_demands.proofs.list_direct.Goals as goal
-
-pub loop-i-init : goal.loop-i-init
-loop-i-init c = (search rules, search rules, search rules, λ j h. absurd (omega arith))
 
 pub loop-i-preserved : goal.loop-i-preserved
 loop-i-preserved c = let a = c.args in
@@ -16,7 +12,4 @@ loop-i-preserved c = let a = c.args in
     let lack = c.lack in
     let open-ends = c.without-open in
     let note = c.note-count in
-    (search rules, note.ensures.0, search rules, note.ensures.1 (good a.net.now a.want) a.b l.invariant.3 (asks-rule a.net.now a.want a.b l.i (search rules) rule.result rule.ensures (bit_and open-ends.result rule.result.only) lack.result (lack.ensures open-ends.result open-ends.ensures)))
-
-pub returns : goal.returns
-returns c = (c.loop-i.invariant.1, c.loop-i.invariant.3)
+    (note.ensures.0, note.ensures.1 (good a.net.now a.want) a.b l.invariant.1 (asks-rule a.net.now a.want a.b l.i (search rules) rule.result rule.ensures (bit_and open-ends.result rule.result.only) lack.result (lack.ensures open-ends.result open-ends.ensures)))

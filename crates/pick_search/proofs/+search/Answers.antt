@@ -1,20 +1,19 @@
 -- `search`, a way to answer at a time. Assumes nothing.
-use mathlib.Core.Path.{◌≡◌, ap, ◌∙◌}
+use mathlib.Core.Path.{◌≡◌, refl, sym, ◌∙◌}
 use mathlib.Core.Bool.{true, false}
-use Prim.Native.Nat.{ℕ, ◌+◌, ◌-◌}
+use Prim.Native.Nat.{ℕ, ◌-◌}
 use native.Mathlib.Omega.{arith}
 use Rattle.paper.specs.Lists.{has}
 use Rattle.pick_bounds.specs.Net.{meets}
 use Rattle.pick_bounds.specs.Bounds.{good, Between}
-use Rattle.pick_scout.specs.Scouting.{said}
-use Rattle.pick_scout.proofs.Scouting.{lost}
+use Rattle.pick_scout.proofs.Scouting.{found-one, found-none, lost}
 use Rattle.pick_search.proofs.Searching.{stepped_leaving, small-weight, placed_taking, placed_leaving, visited_skip, Past, ends_dead, ends_leaf, finds-first, finds-with, past_none, past_with, finds-first-out, finds_without}
 use Rattle.pick_search.proofs.+search.Goals as goal
-use Rattle.pick_search.proofs.+search.Goals.{After-gone-lost, in-Choice+in_default-f, in_default}
+use Rattle.pick_search.proofs.+search.Goals.{After-gone-lost, then-is_ok+else-is_ok-2, else-is_ok}
 
 pub returns-then-is_dead : goal.returns-then-is_dead
 returns-then-is_dead t c = let a = c.args in
-    ends_dead (good a.net.now a.want) a.m a.left a.p a.b 0 c.requires.2 (c.is_dead.ensures c.if-is_dead.true)
+    rw c.at_once.ensures (ends_dead (good a.net.now a.want) a.m a.left a.p a.b 0 c.requires.2 (c.is_dead.ensures c.if-is_dead.true))
 
 pub returns-then-s-eq0 : goal.returns-then-s-eq0
 returns-then-s-eq0 t c = let a = c.args in
@@ -36,8 +35,8 @@ returns-then-is_first t c = let a = c.args in
     let w = good a.net.now a.want in
     let nz = c.if-s-eq0.false in
     let g = rw c.step-taking.ensures at (c.is_first.ensures c.if-is_first.true) in
-    visited_skip w a.m a.left a.p a.b s.result _ s.ensures.0 (s.ensures.2 w)
-    (finds-first w a.m s.result.left s.result.place a.b s.ensures.1 c.requires.1 (omega arith) c.add.result c.settle-with.result c.add.ensures c.settle-with.ensures g.0 g.1 g.2)
+    rw c.at_once-then-is_first.ensures (visited_skip w a.m a.left a.p a.b s.result _ s.ensures.0 (s.ensures.2 w)
+    (finds-first w a.m s.result.left s.result.place a.b s.ensures.1 c.requires.1 (omega arith) c.add.result c.settle-with.result c.add.ensures c.settle-with.ensures g.0 g.1 g.2))
 
 pub search-f-requires : goal.search-f-requires
 search-f-requires t c = let a = c.args in
@@ -46,31 +45,30 @@ search-f-requires t c = let a = c.args in
     let e = c.step-taking.ensures in
     (omega (arith, s.ensures.0, c.decreases), (c.requires.0, c.requires.1, rw e (placed_taking a.m s.result.left s.result.place s.ensures.1 (omega arith))))
 
-pub returns-in-Choice-f : goal.returns-in-Choice-f
-returns-in-Choice-f t c = let a = c.args in
+pub returns-then-is_ok-2 : goal.returns-then-is_ok-2
+returns-then-is_ok-2 t c = let a = c.args in
     let s = c.skip-s in
     let w = good a.net.now a.want in
     let nz = c.if-s-eq0.false in
-    let g = c.in-Choice-f in
-    let q = c.states_of-tried.ensures in
-    let v = c.survey-view.ensures in
+    let f = c.search-f in
+    let v = c.survey-view in
     visited_skip w a.m a.left a.p a.b s.result _ s.ensures.0 (s.ensures.2 w)
-    (finds-with w a.m s.result.left s.result.place a.b s.ensures.1 c.requires.1 (omega arith) c.add.result c.settle-with.result c.add.ensures c.settle-with.ensures c.search-f.result (rw c.step-taking.ensures at c.search-f.ensures) c.states_of-tried.result (omega (arith, v.most_seen)) g.c g.more g.is (omega (arith, v.some-seen)))
+    (finds-with w a.m s.result.left s.result.place a.b s.ensures.1 c.requires.1 (omega arith) c.add.result c.settle-with.result c.add.ensures c.settle-with.ensures f.result (rw c.step-taking.ensures at f.ensures) v.result.states v.ensures.most_seen
+    (found-one _ (sym c.is_ok-then-is_ok.ensures.value ∙ c.if-is_ok-2.true)) v.ensures.some-seen c.after.result c.after.ensures.0 c.after.ensures.1)
 
 -- where the ways meet: a survey found nothing with the end, or the search didn't
-past_end : (t : ℕ) (c : After-gone-lost t) → let a = c.args in let s = c.skip-s.result in Past (good a.net.now a.want) a.m s.left s.place a.b c.match-view.tried
+past_end : (t : ℕ) (c : After-gone-lost t) → let a = c.args in let s = c.skip-s.result in Past (good a.net.now a.want) a.m s.left s.place a.b c.if-is_ok.tried
 past_end t c = let a = c.args in
     let s = c.skip-s in
     let w = good a.net.now a.want in
     let nz = c.if-s-eq0.false in
-    let v = c.survey-view.ensures in
-    let q = c.states_of-tried.ensures in
-    elim c.match-view.branch [
-      | in-Choice+in_default-f u ↦
+    let v = c.survey-view in
+    elim c.if-is_ok.branch [
+      | then-is_ok+else-is_ok-2 u ↦
           rw u.tried-is (past_with w a.m s.result.left s.result.place a.b s.ensures.1 c.requires.1 (omega arith) c.add.result c.settle-with.result c.add.ensures c.settle-with.ensures u.search-f.result (rw c.step-taking.ensures at u.search-f.ensures)
-          c.states_of-tried.result (omega (arith, v.most_seen)) (ap said u.in_default-f.is) _ (ap (λ (k : ℕ). k + c.states_of-tried.result) u.states_of-tried-in-Choice.ensures))
-      | in_default u ↦
-          rw u.tried-is (past_none w a.m s.result.left s.result.place a.b s.ensures.1 c.requires.1 (omega arith) c.add.result c.settle-with.result c.add.ensures c.settle-with.ensures (v.sure (ap said u.in_default.is)) _ (omega (arith, v.some-seen)) (omega (arith, v.most_seen)))
+          v.result.states v.ensures.most_seen (found-none _ (sym u.is_ok-then-is_ok.ensures.value ∙ u.if-is_ok-2.false)) _ refl)
+      | else-is_ok u ↦
+          rw u.tried-is (past_none w a.m s.result.left s.result.place a.b s.ensures.1 c.requires.1 (omega arith) c.add.result c.settle-with.result c.add.ensures c.settle-with.ensures (v.ensures.sure (found-none _ (sym c.is_ok.ensures.value ∙ u.if-is_ok.false))) _ v.ensures.some-seen v.ensures.most_seen)
     ]
 
 -- a set without the end has none of those that are gone
@@ -97,7 +95,7 @@ returns-then-is_first-2 t c = let a = c.args in
     let here = (goal.at.returns-then-is_first-2 t c).After-gone-lost in
     let g = rw (c.step-leaving.ensures ∙ stepped_leaving s.result.place) at (c.is_first-2.ensures c.if-is_first-2.true) in
     visited_skip w a.m a.left a.p a.b s.result _ s.ensures.0 (s.ensures.2 w)
-    (finds-first-out w a.m s.result.left s.result.place a.b s.ensures.1 c.requires.1 (omega arith) c.match-view.tried (past_end t here) c.gone-lost.result (left_out t here) c.strike.result c.settle-out.result c.strike.ensures c.settle-out.ensures g.0 g.1 g.2)
+    (finds-first-out w a.m s.result.left s.result.place a.b s.ensures.1 c.requires.1 (omega arith) c.if-is_ok.tried (past_end t here) c.gone-lost.result (left_out t here) c.strike.result c.settle-out.result c.strike.ensures c.settle-out.ensures g.0 g.1 g.2)
 
 pub search-v-requires : goal.search-v-requires
 search-v-requires t c = let a = c.args in
@@ -114,4 +112,4 @@ returns t c = let a = c.args in
     let here = (goal.at.returns t c).After-gone-lost in
     let v = c.search-v in
     visited_skip w a.m a.left a.p a.b s.result _ s.ensures.0 (s.ensures.2 w)
-    (finds_without w a.m s.result.left s.result.place a.b s.ensures.1 c.requires.1 (omega arith) c.match-view.tried (past_end t here) c.gone-lost.result (left_out t here) c.strike.result c.settle-out.result c.strike.ensures c.settle-out.ensures v.result (rw (c.step-leaving.ensures ∙ stepped_leaving s.result.place) at v.ensures) c.after.result c.after.ensures.0 c.after.ensures.1)
+    (finds_without w a.m s.result.left s.result.place a.b s.ensures.1 c.requires.1 (omega arith) c.if-is_ok.tried (past_end t here) c.gone-lost.result (left_out t here) c.strike.result c.settle-out.result c.strike.ensures c.settle-out.ensures v.result (rw (c.step-leaving.ensures ∙ stepped_leaving s.result.place) at v.ensures) c.after-2.result c.after-2.ensures.0 c.after-2.ensures.1)

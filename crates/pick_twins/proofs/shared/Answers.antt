@@ -1,13 +1,7 @@
 -- `shared`: nothing is left of end k's rivals without those of end j. Assumes nothing.
 use native.Mathlib.Omega.{arith}
-use Rattle.pick_twins.proofs.Telling.{no_end, shares}
+use Rattle.pick_twins.proofs.Telling.{shares}
 use Rattle.pick_twins.proofs.shared.Goals as goal
-
-pub returns-then-j-ge-ENDS : goal.returns-then-j-ge-ENDS
-returns-then-j-ge-ENDS c = λ i h. no_end i h
-
-pub returns-then-without-ne0 : goal.returns-then-without-ne0
-returns-then-without-ne0 c = λ i h. no_end i h
 
 pub returns : goal.returns
 returns c = let w = c.without in

@@ -1,20 +1,8 @@
 -- `twins`: what each call leaves out, together. Assumes nothing.
 use mathlib.Core.Path.{sym, ◌∙◌}
 use native.Mathlib.Omega.{arith}
-use Rattle.pick_twins.proofs.Telling.{no_end, twins_lack}
+use Rattle.pick_twins.proofs.Telling.{twins_lack}
 use Rattle.pick_twins.proofs.twins.Goals as goal
-
-pub returns-then-k-ge-ENDS : goal.returns-then-k-ge-ENDS
-returns-then-k-ge-ENDS c = λ none j h. no_end j h
-
-pub returns-then-not-meets : goal.returns-then-not-meets
-returns-then-not-meets c = λ none j h. no_end j h
-
-pub returns-then-meets : goal.returns-then-meets
-returns-then-meets c = λ none j h. no_end j h
-
-pub returns-then-same-eq0 : goal.returns-then-same-eq0
-returns-then-same-eq0 c = λ none j h. no_end j h
 
 pub returns : goal.returns
 returns c = let e = c.end_of-end in

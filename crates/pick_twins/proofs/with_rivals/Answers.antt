@@ -1,12 +1,8 @@
 -- `with_rivals`: the invariant says that what is kept has end k's rivals, and that what is left is of `ends`. Assumes nothing.
 use Rattle.pick_twins.specs.Twins.{SharesRivals}
-use Rattle.pick_twins.proofs.Telling.{only_none, left-part, left_less, kept_more}
+use Rattle.pick_twins.proofs.Telling.{left-part, left_less, kept_more}
 use borrow.Author.Rules.{rules}
 use Rattle.pick_twins.proofs.with_rivals.Goals as goal
-
-pub loop-left-init : goal.loop-left-init
-loop-left-init c = let a = c.args in
-    (λ j h. h, only_none (SharesRivals a.net.now a.k) a.ends)
 
 pub loop-left-smaller : goal.loop-left-smaller
 loop-left-smaller c = let f = c.first_of-j in

@@ -1,6 +1,6 @@
 -- `put_count`: three pieces, one behind another. Assumes nothing.
 use Rattle.std.proofs.Common.{rules, arith, length, ◌<◌}
-use Rattle.sheet_numbers.proofs.Writing.{wrote_as, wrote_long, wrote_then, wrote_more}
+use Rattle.sheet_numbers.proofs.Writing.{wrote_as, wrote_then, wrote_more}
 use Rattle.sheet_numbers.proofs.Decimals.{byte-short}
 use Rattle.sheet_text.proofs.Showing.{count-is}
 use Rattle.sheet_text.proofs.put_count.Goals as goal
@@ -15,9 +15,6 @@ bounds-out-b c = let p = c.requires in
     let x = c.put-a in
     let y = c.put_parted-b in
     omega (arith, p, x.ensures.place, x.auto, y.ensures.place, y.auto, byte-short c.args.n p.0)
-
-pub shape_of-out : goal.shape_of-out
-shape_of-out c = wrote_long {d = c.args.out.now} (wrote_more (wrote_then c.put-a.ensures c.put_parted-b.ensures) 10)
 
 pub returns : goal.returns
 returns c = let p = c.requires in

@@ -1,7 +1,7 @@
 -- `put_end`: the head of the line, the paths, the line's end. Assumes nothing.
 use mathlib.Core.Path.{◌∙◌}
 use Rattle.std.proofs.Common.{rules, arith, length, ◌<◌}
-use Rattle.sheet_numbers.proofs.Writing.{wrote_as, wrote_long, wrote_then, wrote_more}
+use Rattle.sheet_numbers.proofs.Writing.{wrote_as, wrote_then, wrote_more}
 use Rattle.sheet_text.proofs.Showing.{end_grow, end-over, end_is}
 use Rattle.sheet_text.proofs.put_end.Goals as goal
 
@@ -26,9 +26,6 @@ put_paths-b-requires c = let a = c.args in
     let e = end-over a.s.now a.p c.wide-m.result c.wide-m.ensures.0 in
     let h = c.put_head-a in
     (omega (arith, e, p), omega (arith, e, p, h.ensures.1, h.auto))
-
-pub shape_of-out : goal.shape_of-out
-shape_of-out c = wrote_long {d = c.args.out.now} (wrote_more (wrote_then c.put_head-a.ensures.0 c.put_paths-b.ensures.1) 10)
 
 pub returns : goal.returns
 returns c = let a = c.args in

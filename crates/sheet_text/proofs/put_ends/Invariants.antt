@@ -6,7 +6,4 @@ use Rattle.sheet_numbers.proofs.Writing.{Writing}
 use Rattle.sheet_text.proofs.put_ends.Given as goal
 
 abbrev pub invariant-loop-k : goal.invariant-loop-k
-invariant-loop-k l = (l.k ≤ l.n) × (l.next + 16 ≤ l.to + 4 * l.p) × (ends_over l.s l.p (l.n - l.k) ≡ ends_over l.s 4 l.n) × EndsFit l.t l.s l.p (l.n - l.k) × Writing l.initial.out l.to (ends_printed l.t l.s 4 0 l.n) (ends_printed l.t l.s l.p l.k (l.n - l.k)) l.out l.next
-
-abbrev pub decreases-loop-k : goal.decreases-loop-k
-decreases-loop-k l = l.n - l.k
+invariant-loop-k l = (l.next + 16 ≤ l.to + 4 * l.p) × (ends_over l.s l.p (l.n - l.k) ≡ ends_over l.s 4 l.n) × EndsFit l.t l.s l.p (l.n - l.k) × Writing l.initial.out l.to (ends_printed l.t l.s 4 0 l.n) (ends_printed l.t l.s l.p l.k (l.n - l.k)) l.out l.next

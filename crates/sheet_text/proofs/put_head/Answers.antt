@@ -1,6 +1,6 @@
 -- `put_head`: four numbers, one behind another. Assumes nothing.
 use native.Mathlib.Omega.{arith}
-use Rattle.sheet_numbers.proofs.Writing.{wrote_as, wrote_long, wrote_then}
+use Rattle.sheet_numbers.proofs.Writing.{wrote_as, wrote_then}
 use Rattle.sheet_numbers.proofs.Decimals.{byte-short}
 use Rattle.sheet_text.proofs.Showing.{head-is}
 use Rattle.sheet_text.proofs.put_head.Goals as goal
@@ -12,9 +12,6 @@ pub put_parted-b-requires : goal.put_parted-b-requires
 put_parted-b-requires c = let w = c.wide-edge in
     let x = c.put_decimal-a in
     omega (arith, c.requires, byte-short c.args.k c.requires.3, byte-short w.result w.ensures.1, x.ensures.place, x.auto)
-
-pub shape_of-out : goal.shape_of-out
-shape_of-out c = wrote_long {d = c.args.out.now} (wrote_then (wrote_then (wrote_then c.put_decimal-a.ensures c.put_parted-b.ensures) c.put_parted-e.ensures) c.put_value.ensures.0)
 
 pub returns : goal.returns
 returns c = let a = c.args in

@@ -1,15 +1,8 @@
 -- `put_path`: a space, and the edges with commas. Assumes nothing.
 use native.Mathlib.Omega.{arith}
-use lib.ListN.{length-set}
-use Rattle.sheet_numbers.proofs.Writing.{wrote_as, wrote_long, wrote_behind}
+use Rattle.sheet_numbers.proofs.Writing.{wrote_as, wrote_behind}
 use Rattle.sheet_text.proofs.Showing.{path-is}
 use Rattle.sheet_text.proofs.put_path.Goals as goal
-
-pub put_commas-requires : goal.put_commas-requires
-put_commas-requires c = let w = c.wide.ensures.0 in (omega (arith, c.requires, w), simp length-set (omega (arith, c.requires, w)))
-
-pub shape_of-out : goal.shape_of-out
-shape_of-out c = wrote_long {d = c.args.out.now} (wrote_behind 32 c.put_commas.ensures.0)
 
 pub returns : goal.returns
 returns c = let a = c.args in

@@ -6,7 +6,4 @@ use Rattle.sheet_numbers.proofs.Writing.{Writing}
 use Rattle.sheet_text.proofs.put_paths.Given as goal
 
 abbrev pub invariant-loop-j : goal.invariant-loop-j
-invariant-loop-j l = (l.j ≤ l.m) × (l.next + 4 * l.start ≤ l.to + 4 * l.p) × (paths_over l.s l.p (l.m - l.j) ≡ paths_over l.s l.start l.m) × Writing l.initial.out l.to (paths_printed l.s l.start l.m) (paths_printed l.s l.p (l.m - l.j)) l.out l.next
-
-abbrev pub decreases-loop-j : goal.decreases-loop-j
-decreases-loop-j l = l.m - l.j
+invariant-loop-j l = (l.next + 4 * l.start ≤ l.to + 4 * l.p) × (paths_over l.s l.p (l.m - l.j) ≡ paths_over l.s l.start l.m) × Writing l.initial.out l.to (paths_printed l.s l.start l.m) (paths_printed l.s l.p (l.m - l.j)) l.out l.next

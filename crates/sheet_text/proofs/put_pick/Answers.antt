@@ -1,11 +1,8 @@
 -- `put_pick`: three pieces, one behind another. Assumes nothing.
 use native.Mathlib.Omega.{arith}
-use Rattle.sheet_numbers.proofs.Writing.{wrote_as, wrote_long, wrote_then, wrote_more}
+use Rattle.sheet_numbers.proofs.Writing.{wrote_as, wrote_then, wrote_more}
 use Rattle.sheet_text.proofs.Showing.{pick_is}
 use Rattle.sheet_text.proofs.put_pick.Goals as goal
-
-pub shape_of-out : goal.shape_of-out
-shape_of-out c = wrote_long {d = c.args.out.now} (wrote_more (wrote_then c.put-a.ensures c.put_commas-b.ensures.0) 10)
 
 pub returns : goal.returns
 returns c = let x = c.put-a.ensures in

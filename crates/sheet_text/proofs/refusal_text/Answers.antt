@@ -1,6 +1,6 @@
 -- `refusal_text`: four pieces, one behind another. Assumes nothing.
 use Rattle.std.proofs.Common.{rules, arith, length, ◌<◌}
-use Rattle.sheet_numbers.proofs.Writing.{wrote_as, wrote_long, wrote_then, wrote_more, printed}
+use Rattle.sheet_numbers.proofs.Writing.{wrote_as, wrote_then, wrote_more, printed}
 use Rattle.sheet_numbers.proofs.Decimals.{decimal-short}
 use Rattle.sheet_text.proofs.Showing.{refusal_is}
 use Rattle.sheet_text.proofs.refusal_text.Goals as goal
@@ -14,9 +14,6 @@ put_parted-e-requires c = let a = c.args in
     let x = c.put-a in
     let y = c.put_parted-b in
     omega (arith, c.requires, x.ensures.place, x.auto, y.ensures.place, y.auto, decimal-short a.number, decimal-short a.place)
-
-pub shape_of-out : goal.shape_of-out
-shape_of-out c = wrote_long {d = c.args.out.now} (wrote_more (wrote_then (wrote_then c.put-a.ensures c.put_parted-b.ensures) c.put_parted-e.ensures) 10)
 
 pub returns : goal.returns
 returns c = let a = c.args in

@@ -8,21 +8,14 @@ use Rattle.sheet_write.proofs.size.Goals as goal
 
 pub loop-k-init : goal.loop-k-init
 unfolding total
-loop-k-init c = (omega arith, omega arith, omega arith)
-
-pub end_size-taken-requires : goal.end_size-taken-requires
-end_size-taken-requires c = (c.requires, omega arith)
-
-pub overflow_add-taken : goal.overflow_add-taken
-overflow_add-taken c = omega (arith, c.requires.few)
+loop-k-init c = (omega arith, omega arith)
 
 pub loop-k-preserved : goal.loop-k-preserved
 loop-k-preserved c = let a = c.args in
-    (omega arith, omega (arith, total-more (end_takes a.rows.now a.ends.now a.order.now a.lens.now) c.loop-k.k), omega arith)
+    (omega (arith, total-more (end_takes a.rows.now a.ends.now a.order.now a.lens.now) c.loop-k.k), omega arith)
 
 pub returns : goal.returns
 unfolding sheet_takes
-returns c = let a = c.args in
-    let l = c.loop-k in
-    let e : l.k ≡ a.n = omega arith in
-    (rw (← e) l.invariant.1, omega arith, omega (arith, c.requires.few))
+returns c = let l = c.loop-k in
+    let e : l.k ≡ c.args.n = omega arith in
+    (rw (← e) l.invariant.0, omega arith, omega (arith, c.requires.few))

@@ -1,12 +1,9 @@
 -- `size` adds up what the ends take. Assumes nothing.
-use Prim.Native.Nat.{◌+◌, ◌*◌, ◌≤◌, ◌-◌}
+use Prim.Native.Nat.{◌+◌, ◌*◌, ◌≤◌}
 use mathlib.Core.Path.{◌≡◌}
 use Rattle.wire.specs.Totals.{total}
 use Rattle.sheet_write.specs.Listing.{most_end_size, end_takes}
 use Rattle.sheet_write.proofs.size.Given as goal
 
 abbrev pub invariant-loop-k : goal.invariant-loop-k
-invariant-loop-k l = (l.k ≤ l.n) × (l.taken ≡ 4 + total (end_takes l.rows l.ends l.order l.lens) l.k) × (l.taken ≤ 4 + most_end_size * l.k)
-
-abbrev pub decreases-loop-k : goal.decreases-loop-k
-decreases-loop-k l = l.n - l.k
+invariant-loop-k l = (l.taken ≡ 4 + total (end_takes l.rows l.ends l.order l.lens) l.k) × (l.taken ≤ 4 + most_end_size * l.k)

@@ -15,12 +15,6 @@ write_front-requires c =
     omega (arith, c.requires.0.measured.inside c.args.k c.requires.1, c.wide-i.ensures.0) in
     let p = c.requires in ((inside, p.0.measured.rows-there), omega (arith, p.2))
 
-pub paths_of-requires : goal.paths_of-requires
-paths_of-requires c =
-    let inside : c.wide-i.result < limits.most_offers =
-    omega (arith, c.requires.0.measured.inside c.args.k c.requires.1, c.wide-i.ensures.0) in
-    (inside, c.requires.0.measured.rows-there)
-
 pub write_paths-requires : goal.write_paths-requires
 write_paths-requires c = let p = c.requires in
     let a = c.args in

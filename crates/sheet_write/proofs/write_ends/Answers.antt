@@ -1,5 +1,5 @@
 -- `write_ends` stores the ends as one run. The invariant: those passed are stored, and the next starts where they end. Assumes nothing.
-use mathlib.Core.Path.{◌≡◌, ◌∙◌}
+use mathlib.Core.Path.{◌∙◌}
 use native.Mathlib.Omega.{arith}
 use Rattle.wire.proofs.Runs.{total-more, total-room, run_more}
 use Rattle.sheet_write.specs.Listing.{end_takes, end_shown, sheet_takes}
@@ -19,16 +19,10 @@ pub loop-k-preserved : goal.loop-k-preserved
 loop-k-preserved c = let a = c.args in
     let takes = end_takes a.rows.now a.ends.now a.order.now a.lens.now in
     let shown = end_shown a.rows.now a.ends.now a.order.now a.lens.now a.cells.now in (
-      omega arith,
       omega (arith, total-more takes c.loop-k.k),
-      omega arith,
       c.write_end-to.ensures.1
-          ∙ rw c.loop-k.invariant.3 (run_more shown takes a.out.now 4 c.loop-k.to c.loop-k.k (λ k h. length-end c.requires.0 k (omega arith)) c.loop-k.invariant.1),
+          ∙ rw c.loop-k.invariant.1 (run_more shown takes a.out.now 4 c.loop-k.to c.loop-k.k (λ k h. length-end c.requires.0 k (omega arith)) c.loop-k.invariant.0),
     )
-
-pub returns : goal.returns
-returns c = let e : c.loop-k.k ≡ c.args.n = omega arith in
-    rw (← e) c.loop-k.invariant.3
 
 pub loop-k-init : goal.loop-k-init
 unfolding total

@@ -1,7 +1,6 @@
 -- `write_ends` stores the ends as one run. The invariant: those passed are stored, and the next starts where they end. Assumes nothing.
-use Prim.Native.Nat.{◌+◌, ◌≤◌, ◌-◌}
+use Prim.Native.Nat.{◌+◌}
 use mathlib.Core.Path.{◌≡◌}
-use lib.ListN.{length}
 use lib.Seq.{sets}
 use Rattle.paper.specs.Lists.{below, gather}
 use Rattle.wire.specs.Totals.{total}
@@ -9,7 +8,4 @@ use Rattle.sheet_write.specs.Listing.{end_takes, end_shown}
 use Rattle.sheet_write.proofs.write_ends.Given as goal
 
 abbrev pub invariant-loop-k : goal.invariant-loop-k
-invariant-loop-k l = (l.k ≤ l.n) × (l.to ≡ 4 + total (end_takes l.rows l.ends l.order l.lens) l.k) × (length l.out ≡ length l.initial.out) × (l.out ≡ sets l.initial.out 4 (gather (end_shown l.rows l.ends l.order l.lens l.cells) (below l.k)))
-
-abbrev pub decreases-loop-k : goal.decreases-loop-k
-decreases-loop-k l = l.n - l.k
+invariant-loop-k l = (l.to ≡ 4 + total (end_takes l.rows l.ends l.order l.lens) l.k) × (l.out ≡ sets l.initial.out 4 (gather (end_shown l.rows l.ends l.order l.lens l.cells) (below l.k)))

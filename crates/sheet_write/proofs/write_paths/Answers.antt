@@ -34,19 +34,11 @@ loop-j-preserved c = let a = c.args in
     let z : at a.lens.now d.result ≡ at a.lens.now (block l.j) = ap (at a.lens.now) q in
     let long : (i : ℕ) → i < l.j → length (path_shown a.lens.now a.cells.now (block i)) ≡ 1 + at a.lens.now (block i) =
     λ i h. length-path a.lens.now a.cells.now (block i) (p.2 i (omega arith)) (omega (arith, p.1 i (omega arith), p.4)) in (
-      omega arith,
       omega (arith, total-more (path_takes a.order.now a.lens.now a.k) l.j),
-      omega arith,
       w.ensures.1
-          ∙ rw (l.invariant.3, q) (run_more (path_of a.order.now a.lens.now a.cells.now a.k) (path_takes a.order.now a.lens.now a.k) a.out.now
-          a.start l.to l.j long l.invariant.1),
+          ∙ rw (l.invariant.1, q) (run_more (path_of a.order.now a.lens.now a.cells.now a.k) (path_takes a.order.now a.lens.now a.k) a.out.now
+          a.start l.to l.j long l.invariant.0),
     )
-
-pub returns : goal.returns
-returns c = let a = c.args in
-    let l = c.loop-j in
-    let e : l.j ≡ a.m = omega arith in
-    (rw (← e) l.invariant.1, rw (← e) l.invariant.3)
 
 pub loop-j-init : goal.loop-j-init
 unfolding total

@@ -38,5 +38,5 @@ returns c =
     λ l. c.idle.ensures c.requires.2 l.current b c.args.from.now c.args.tokens.now l.held in
     let d = c.deliver in
     let a = c.args in
-    λ l. finish-reply t b l is-bytes a.a idled (held l) a.values.now d.result a.out.now
+    λ l. finish-reply t b l is-bytes a.a idled (held l) a.values.now _ a.out.now
     d.new.out d.ensures

@@ -1,12 +1,12 @@
 -- `step`: row 9, the first rule that refuses, or what the stages make of the marking, ended or not, written. Assumes nothing.
-use mathlib.Core.Path.{◌≡◌, sym, ap, ◌∙◌}
+use mathlib.Core.Path.{◌≡◌, refl, sym, ◌∙◌}
 use mathlib.Core.Bool.{Bool}
 use Prim.Native.Nat.{ℕ}
 use native.Mathlib.Omega.{arith}
 use Rattle.paper.specs.Lists.{one_if}
 use Rattle.paper.specs.Choices.{next}
 use Rattle.table.proofs.Reading.{read-spans, nodes_most, edges_most}
-use Rattle.choice.specs.Choice.{said}
+use Rattle.std.proofs.lemmas.Result.{err_from_is_err_and}
 use Rattle.marking_held.specs.MarkingHeld.{Held, HeldLengths, MarkingHeld, held_in, fields_held}
 use Rattle.marking_held.proofs.HeldLaws.{held-inside}
 use Rattle.step_spend.specs.Spending.{spends}
@@ -28,7 +28,7 @@ module _ (c : After-close-state) where
       let o = c.args.offers in
       spends o.last o.parents o.count c.all_makers-made.result
 
-  stages : Stages c.args.t.now c.args.table c.args.offers c.args.ends c.in-Good.c c.all_makers-made.result c.bringing-bringing.result
+  stages : Stages c.args.t.now c.args.table c.args.offers c.args.ends c.in_ok-c.c c.all_makers-made.result c.bringing-bringing.result
       c.args.fields.from c.args.fields.kept c.args.fields.tokens c.spend_stocks.new.from c.spend_stocks.new.kept c.gain.new.place
       c.gain.new.more c.run.new.runs c.spend_tokens.new.tokens c.gain.new.extra
   stages = record {
@@ -45,12 +45,12 @@ module _ (c : After-close-state) where
       let w = c.close-state.new in
       held_in c.spend_stocks.new.from w.kept c.gain.new.place w.more w.runs w.tokens
 
-  next-is-held : (s : On) → MarkingHeld c.args.t.now (next s.on c.in-Good.c) c.args.b.now c.gain.new.extra written
-  next-is-held s = next-held s.stands c.in-Good.c c.close-state.ensures.1
+  next-is-held : (s : On) → MarkingHeld c.args.t.now (next s.on c.in_ok-c.c) c.args.b.now c.gain.new.extra written
+  next-is-held s = next-held s.stands c.in_ok-c.c c.close-state.ensures.1
       (stages_held stages c.requires.0 s.on s.stands (omega (arith, s.short)) s.held_as)
 
-  state-is : (s : On) → c.close-state.result ≡ one_if (next s.on c.in-Good.c).ended
-  state-is s = c.close-state.ensures.0 ∙ next-state s.stands c.in-Good.c s.live
+  state-is : (s : On) → c.close-state.result ≡ one_if (next s.on c.in_ok-c.c).ended
+  state-is s = c.close-state.ensures.0 ∙ next-state s.stands c.in_ok-c.c s.live
 
   lengths : HeldLengths written
   lengths =
@@ -64,18 +64,18 @@ module _ (c : After-close-state) where
         tokens-long = omega (arith, c.close-state.auto.tokens, c.spend_tokens.auto.tokens, f.tokens-long);
       }
 
-pub returns-in-Refused : goal.returns-in-Refused
-returns-in-Refused c = let a = c.args in
-    λ s. chosen_9 a.t.now s.on a.ends.count s.stands.seated.number a.choice.now _ _ _ a.out.now
-    (sym (ap said c.in-Refused.is) ∙ c.read_choice.ensures) c.pack.ensures
+pub returns-in_err-c : goal.returns-in_err-c
+returns-in_err-c c = let a = c.args in
+    let p = err_from_is_err_and c.from_residual.result c.from_residual.ensures.1 in
+    rw (p.1, p.2) (λ s. chosen_9 a.t.now s.on a.ends.count s.stands.seated.number a.choice.now _ _ _ a.out.now c.in_err-c.ensures refl)
 
-pub returns-in-Refused-judge : goal.returns-in-Refused-judge
-returns-in-Refused-judge c =
-    let taken : ℕ = c.in-Good.c in
+pub returns-in_err-judge : goal.returns-in_err-judge
+returns-in_err-judge c =
     let a = c.args in
-    λ s. settled-reply a.t.now s.on a.ends.count s.stands.seated.number a.choice.now taken
-    (sym (ap said c.in-Good.is) ∙ c.read_choice.ensures) c.pack-in-Refused-judge.result a.out.now _
-    (settled-refused s taken c.judge.result c.judge.ensures _ _ _ a.out.now c.in-Refused-judge.is c.pack-in-Refused-judge.ensures)
+    let r = c.from_residual-in_err-judge in
+    let p = err_from_is_err_and r.result r.ensures.1 in
+    rw (p.1, p.2) (λ s. settled-reply a.t.now s.on a.ends.count s.stands.seated.number a.choice.now c.in_ok-c.c c.in_ok-c.ensures _ a.out.now _
+    (settled-refused s c.in_ok-c.c c.judge.result c.judge.ensures _ _ a.out.now c.in_err-judge.was refl))
 
 pub bringing-bringing-requires : goal.bringing-bringing-requires
 bringing-bringing-requires c = let p = c.requires in
@@ -138,7 +138,6 @@ returns c =
     let k = (goal.at.returns c).After-close-state in
     let r = c.reply in
     let a = c.args in
-    λ s. settled-reply a.t.now s.on a.ends.count s.stands.seated.number a.choice.now c.in-Good.c
-    (sym (ap said c.in-Good.is) ∙ c.read_choice.ensures) r.result a.out.now _
-    (settled_moves s c.in-Good.c c.judge.result c.judge.ensures c.in_default.is r.result a.out.now _
-    (r.ensures (next s.on c.in-Good.c) (next-is-held k s) (state-is k s)))
+    λ s. settled-reply a.t.now s.on a.ends.count s.stands.seated.number a.choice.now c.in_ok-c.c c.in_ok-c.ensures _ a.out.now _
+    (settled_moves s c.in_ok-c.c c.judge.result c.judge.ensures c.in_ok-judge.was _ a.out.now _
+    (r.ensures (next s.on c.in_ok-c.c) (next-is-held k s) (state-is k s)))

@@ -8,51 +8,23 @@ use Rattle.step_close.proofs.clear_nodes.Goals as goal
 use Rattle.step_close.proofs.clear_nodes.Goals.{then-kind-ne-OUTGOING, else-kind-ne-OUTGOING}
 
 pub loop-i-init : goal.loop-i-init
-loop-i-init c = let a = c.args in (omega arith, emptied_none a.t.now a.kept.now a.more.now a.runs.now)
-
-pub bounds-kept-i : goal.bounds-kept-i
-bounds-kept-i c =
-    let in_kept : c.loop-i.i < length c.loop-i.kept =
-    omega (arith, c.loop-i.invariant.1.kepts.long, c.requires.1, c.loop-i-test.true) in
-    in_kept
-
-pub bounds-more-i : goal.bounds-more-i
-bounds-more-i c =
-    let in_more : c.loop-i.i < length c.loop-i.more =
-    omega (arith, c.loop-i.invariant.1.mores.long, c.requires.2, c.loop-i-test.true) in
-    in_more
-
-pub bounds-runs-i : goal.bounds-runs-i
-bounds-runs-i c =
-    let in_runs : c.loop-i.i < length c.loop-i.runs =
-    omega (arith, c.loop-i.invariant.1.still.long, c.requires.3, c.loop-i-test.true) in
-    in_runs
+loop-i-init c = let a = c.args in (emptied_none a.t.now a.kept.now a.more.now a.runs.now)
 
 pub loop-i-preserved : goal.loop-i-preserved
 loop-i-preserved c =
     let in_kept : c.loop-i.i < length c.loop-i.kept =
-    omega (arith, c.loop-i.invariant.1.kepts.long, c.requires.1, c.loop-i-test.true) in
+    omega (arith, c.loop-i.invariant.kepts.long, c.requires.1, c.loop-i-test.true) in
     let in_more : c.loop-i.i < length c.loop-i.more =
-    omega (arith, c.loop-i.invariant.1.mores.long, c.requires.2, c.loop-i-test.true) in
+    omega (arith, c.loop-i.invariant.mores.long, c.requires.2, c.loop-i-test.true) in
     let in_runs : c.loop-i.i < length c.loop-i.runs =
-    omega (arith, c.loop-i.invariant.1.still.long, c.requires.3, c.loop-i-test.true) in
-    let g = c.loop-i.invariant.1 in
+    omega (arith, c.loop-i.invariant.still.long, c.requires.3, c.loop-i-test.true) in
+    let g = c.loop-i.invariant in
     let k = c.kind.ensures.0 in (
-      omega arith,
-      elim c.if-kind-ne-OUTGOING.branch [
-        | then-kind-ne-OUTGOING w ↦ rw (w.kept-is, w.more-is) (emptied_more g (in_runs) k w.if-kind-ne-OUTGOING.true (in_kept) (in_more))
-        | else-kind-ne-OUTGOING w ↦ rw (w.kept-is, w.more-is) (emptied_left g (in_runs) k w.if-kind-ne-OUTGOING.false)
-      ],
+    elim c.if-kind-ne-OUTGOING.branch [
+      | then-kind-ne-OUTGOING w ↦ rw (w.kept-is, w.more-is) (emptied_more g (in_runs) k w.if-kind-ne-OUTGOING.true (in_kept) (in_more))
+      | else-kind-ne-OUTGOING w ↦ rw (w.kept-is, w.more-is) (emptied_left g (in_runs) k w.if-kind-ne-OUTGOING.false)
+    ]
     )
 
-pub shape_of-kept : goal.shape_of-kept
-shape_of-kept c = c.loop-i.invariant.1.kepts.long
-
-pub shape_of-more : goal.shape_of-more
-shape_of-more c = c.loop-i.invariant.1.mores.long
-
-pub shape_of-runs : goal.shape_of-runs
-shape_of-runs c = c.loop-i.invariant.1.still.long
-
 pub returns : goal.returns
-returns c = let e : c.loop-i.i ≡ c.args.table.nodes = omega arith in rw (← e) c.loop-i.invariant.1
+returns c = let e : c.loop-i.i ≡ c.args.table.nodes = omega arith in rw (← e) c.loop-i.invariant

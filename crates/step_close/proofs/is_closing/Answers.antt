@@ -11,7 +11,7 @@ use Rattle.step_close.specs.Closing.{closes}
 use Rattle.step_close.proofs.is_closing.Goals as goal
 
 pub loop-k-init : goal.loop-k-init
-loop-k-init c = (omega arith, λ j l. absurd (omega arith))
+loop-k-init c = (λ j l. absurd (omega arith))
 
 pub is_last-requires : goal.is_last-requires
 is_last-requires c = let p = c.requires in (p.0, omega arith, p.2 c.loop-k.k c.loop-k-test.true, omega arith)
@@ -23,10 +23,10 @@ returns-then-is_last c = let a = c.args in
     (sym c.is_last.ensures ∙ c.if-is_last.true))
 
 pub loop-k-preserved : goal.loop-k-preserved
-loop-k-preserved c = (omega arith, below_more _ _ c.loop-k.invariant.1 (sym c.is_last.ensures ∙ c.if-is_last.false))
+loop-k-preserved c = (below_more _ _ c.loop-k.invariant (sym c.is_last.ensures ∙ c.if-is_last.false))
 
 pub returns : goal.returns
 unfolding closes
 returns c = let a = c.args in
     sym (any-below-none (λ k. has a.c k && is_activity_final (kind_of a.t.now (at a.target.now k))) a.n
-    (λ k l. c.loop-k.invariant.1 k (omega arith)))
+    (λ k l. c.loop-k.invariant k (omega arith)))

@@ -1,5 +1,5 @@
 -- `is_closing` looks for a taken end at an activity final. Assumes nothing.
-use Prim.Native.Nat.{ℕ, ◌-◌, ◌≤◌, ◌<◌}
+use Prim.Native.Nat.{ℕ, ◌<◌}
 use mathlib.Core.Path.{◌≡◌}
 use mathlib.Core.Bool.{false, ◌&&◌}
 use Rattle.paper.specs.Lists.{at, has}
@@ -7,7 +7,4 @@ use Rattle.paper.specs.Table.{kind as kind_of, is_activity_final}
 use Rattle.step_close.proofs.is_closing.Given as goal
 
 abbrev pub invariant-loop-k : goal.invariant-loop-k
-invariant-loop-k l = (l.k ≤ l.n) × ((j : ℕ) → j < l.k → has l.c j && is_activity_final (kind_of l.t (at l.target j)) ≡ false)
-
-abbrev pub decreases-loop-k : goal.decreases-loop-k
-decreases-loop-k l = l.n - l.k
+invariant-loop-k l = ((j : ℕ) → j < l.k → has l.c j && is_activity_final (kind_of l.t (at l.target j)) ≡ false)

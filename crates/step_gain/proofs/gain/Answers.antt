@@ -52,31 +52,25 @@ module _ (c : Joined-reached-i-ne0) where
   place-few =
       let e = c.args.ends in
       let l = c.loop-i in
-      omega (arith, l.invariant.1.room, before_most e.target c.args.w e.count l.i, c.requires.1.few)
+      omega (arith, l.invariant.room, before_most e.target c.args.w e.count l.i, c.requires.1.few)
 
 pub loop-i-init : goal.loop-i-init
 loop-i-init c = let a = c.args in
     let e = a.ends in
-    (omega arith, laid_none e.target e.row a.value.now a.w e.count a.extra.now a.place.now a.more.now)
+    (laid_none e.target e.row a.value.now a.w e.count a.extra.now a.place.now a.more.now)
 
 pub gain_node-many-requires : goal.gain_node-many-requires
 gain_node-many-requires c = let a = c.args in
     let e = a.ends in
     let p = c.requires in
-    let room = laid_room e.target e.row a.value.now a.w e.count c.loop-i.invariant.1 p.1.few p.3 in
+    let room = laid_room e.target e.row a.value.now a.w e.count c.loop-i.invariant p.1.few p.3 in
     (p.1.few, omega (arith, p.1.few, p.1.targets-full), p.2, room)
 
 pub overflow_cast-place : goal.overflow_cast-place
 overflow_cast-place c = omega (arith, place-few (goal.at.overflow_cast-place c).Joined-reached-i-ne0)
 
-pub bounds-place-i : goal.bounds-place-i
-bounds-place-i c = omega (arith, c.loop-i.invariant.1.place-long, c.requires.4, c.loop-i-test.true)
-
 pub overflow_cast-more : goal.overflow_cast-more
 overflow_cast-more c = omega (arith, few (goal.at.overflow_cast-more c).Joined-reached-i-ne0)
-
-pub bounds-more-i : goal.bounds-more-i
-bounds-more-i c = omega (arith, c.loop-i.invariant.1.more-long, c.requires.5, c.loop-i-test.true)
 
 pub overflow_mul-to : goal.overflow_mul-to
 overflow_mul-to c = omega (arith, few (goal.at.overflow_mul-to c).Joined-reached-i-ne0)
@@ -92,19 +86,9 @@ loop-i-preserved c =
     let e = a.ends in
     let l = c.loop-i in
     let g = stored (goal.at.loop-i-preserved c).Joined-reached-i-ne0 in (
-      omega arith,
-      laid_more e.target e.row a.value.now a.w e.count l.invariant.1 _ c.if-reached-i-ne0.many c.requires.1.few c.requires.3
-          (omega (arith, l.invariant.1.place-long, c.requires.4)) (omega (arith, l.invariant.1.more-long, c.requires.5)) g.0 g.1,
+    laid_more e.target e.row a.value.now a.w e.count l.invariant _ c.if-reached-i-ne0.many c.requires.1.few c.requires.3
+    (omega (arith, l.invariant.place-long, c.requires.4)) (omega (arith, l.invariant.more-long, c.requires.5)) g.0 g.1
     )
 
-pub shape_of-extra : goal.shape_of-extra
-shape_of-extra c = c.loop-i.invariant.1.extra_long
-
-pub shape_of-place : goal.shape_of-place
-shape_of-place c = c.loop-i.invariant.1.place-long
-
-pub shape_of-more : goal.shape_of-more
-shape_of-more c = c.loop-i.invariant.1.more-long
-
 pub returns : goal.returns
-returns c = record { stand = λ i l. (c.loop-i.invariant.1.stand i (omega arith)).0 }
+returns c = record { stand = λ i l. (c.loop-i.invariant.stand i (omega arith)).0 }

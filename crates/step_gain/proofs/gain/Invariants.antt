@@ -1,11 +1,7 @@
 -- `gain`: one node after the other, each behind the one before. The invariant: what is stored is no more than the ends of the word below. Assumes nothing.
-use Prim.Native.Nat.{◌-◌, ◌≤◌}
 use Rattle.step_gain.proofs.Gaining.{Laid}
 use Rattle.step_gain.proofs.gain.Given as goal
 
 abbrev pub invariant-loop-i : goal.invariant-loop-i
 invariant-loop-i l =
-    (l.i ≤ l.nodes) × Laid l.ends.target l.ends.row l.value l.w l.n l.initial.extra l.initial.place l.initial.more l.extra l.place l.more l.to l.i
-
-abbrev pub decreases-loop-i : goal.decreases-loop-i
-decreases-loop-i l = l.nodes - l.i
+    Laid l.ends.target l.ends.row l.value l.w l.n l.initial.extra l.initial.place l.initial.more l.extra l.place l.more l.to l.i

@@ -1,5 +1,4 @@
 -- `gain_node`: one end after the other; the values are one run. Assumes nothing.
-use Prim.Native.Nat.{◌-◌, ◌≤◌}
 use mathlib.Core.Path.{◌≡◌}
 use lib.ListN.{length}
 use Rattle.step_gain.proofs.Gaining.{Gaining}
@@ -7,7 +6,4 @@ use Rattle.step_gain.proofs.gain_node.Given as goal
 
 abbrev pub invariant-loop-k : goal.invariant-loop-k
 invariant-loop-k l =
-    (l.k ≤ l.n) × (length l.extra ≡ length l.initial.extra) × Gaining l.target l.row l.value l.w l.i l.place l.initial.extra l.extra l.many l.k
-
-abbrev pub decreases-loop-k : goal.decreases-loop-k
-decreases-loop-k l = l.n - l.k
+    (length l.extra ≡ length l.initial.extra) × Gaining l.target l.row l.value l.w l.i l.place l.initial.extra l.extra l.many l.k

@@ -7,20 +7,19 @@ use borrow.Author.Rules.{rules}
 use Rattle.step_gain.proofs.mark_column.Goals as goal
 
 pub loop-k-init : goal.loop-k-init
-loop-k-init c = let a = c.args in (search rules, refl, λ p most l h. pass_none p (has a.c) (at a.column.now) h)
+loop-k-init c = let a = c.args in (refl, λ p most l h. pass_none p (has a.c) (at a.column.now) h)
 
 pub loop-k-preserved : goal.loop-k-preserved
 loop-k-preserved c = let a = c.args in
     let l = c.loop-k in (
       search rules,
-      search rules,
-      λ p most g h. pass_more p (has a.c) (at a.column.now) _ l.k (omega (arith, g, l.invariant.1))
+      λ p most g h. pass_more p (has a.c) (at a.column.now) _ l.k (omega (arith, g, l.invariant.0))
           c.mark.ensures c.is_taken.ensures c.wide.ensures.0
-          (l.invariant.2 p most g h),
+          (l.invariant.1 p most g h),
     )
 
 pub returns : goal.returns
 returns c = let a = c.args in
     let l = c.loop-k in
     let q : l.k ≡ a.n = omega arith in
-    λ p most g h. rw q at (l.invariant.2 p most g h)
+    λ p most g h. rw q at (l.invariant.1 p most g h)

@@ -1,5 +1,4 @@
 -- `run`: one node after the other. Assumes nothing.
-use Prim.Native.Nat.{◌-◌, ◌≤◌}
 use mathlib.Core.Bool.{◌&&◌}
 use Rattle.paper.specs.Table.{kind as kind_of, is_action}
 use Rattle.words.specs.Marks.{is_marked}
@@ -7,7 +6,4 @@ use Rattle.step_gain.specs.Gains.{Started}
 use Rattle.step_gain.proofs.run.Given as goal
 
 abbrev pub invariant-loop-i : goal.invariant-loop-i
-invariant-loop-i l = (l.i ≤ l.n) × Started (λ i. is_action (kind_of l.t i) && is_marked l.touched i) l.initial.runs l.runs l.i
-
-abbrev pub decreases-loop-i : goal.decreases-loop-i
-decreases-loop-i l = l.n - l.i
+invariant-loop-i l = Started (λ i. is_action (kind_of l.t i) && is_marked l.touched i) l.initial.runs l.runs l.i

@@ -1,7 +1,7 @@
 -- `losing_nodes`: one edge after the other. The invariant: the marks are those of the edges passed. Assumes nothing.
 use mathlib.Core.Path.{◌≡◌}
 use mathlib.Core.Bool.{Bool}
-use Prim.Native.Nat.{ℕ, ◌-◌, ◌≤◌}
+use Prim.Native.Nat.{ℕ}
 use lib.ListN.{length}
 use Rattle.paper.specs.Limits.{limits}
 use Rattle.paper.specs.Table.{source}
@@ -10,8 +10,5 @@ use Rattle.step_spend.proofs.losing_nodes.Given as goal
 
 abbrev pub invariant-loop-e : goal.invariant-loop-e
 invariant-loop-e l =
-    (l.e ≤ l.n) × (length l.losing ≡ limits.most_nodes)
+    (length l.losing ≡ limits.most_nodes)
     × ((p : ℕ → Bool) → MarksOf p limits.most_edges l.spent → MarksOf (placed p (source l.t) l.e) limits.most_nodes l.losing)
-
-abbrev pub decreases-loop-e : goal.decreases-loop-e
-decreases-loop-e l = l.n - l.e

@@ -3,48 +3,9 @@ use mathlib.Core.Path.{◌≡◌, sym, ◌∙◌, subst}
 use Prim.Native.Nat.{◌+◌, ◌-◌, ◌<◌}
 use native.Mathlib.Omega.{arith}
 use lib.ListN.{length-set}
-use borrow.Author.Rules.{rules}
 use Rattle.paper.specs.Table.{nodes, edges, target}
-use Rattle.table.proofs.Incoming.{Begun, begun_none, begun_more, begun_all, incoming-listed}
+use Rattle.table.proofs.Incoming.{Begun, begun_more, begun_all, incoming-listed}
 use Rattle.table.proofs.list_incoming.Goals as goal
-
-pub loop-j-init : goal.loop-j-init
-loop-j-init c =
-    let a = c.args in
-    let p = c.requires in
-    let e = p.spans.edges-read in (
-      (omega arith, search rules),
-      subst (λ z. Begun (target a.t.now) (edges a.t.now) (nodes a.t.now) a.first.now a.next.now z) (sym e)
-          (begun_none (target a.t.now) (edges a.t.now) (nodes a.t.now) a.first.now a.next.now p.spans.few-edges p.spans.few-nodes
-          p.firsts-blank p.nexts-blank),
-    )
-
-pub target-i-requires : goal.target-i-requires
-target-i-requires c = let p = c.requires in (p.spans, omega (arith, p.spans.edges-read, c.loop-j.invariant.0.0))
-
-pub bounds-first-i : goal.bounds-first-i
-bounds-first-i c =
-    let l = c.loop-j in
-    let p = c.requires in
-    omega (arith, c.target-i.ensures.0, p.targets (l.j - 1) (omega arith), p.spans.few-nodes, p.firsts-blank.room, l.invariant.0.1.0)
-
-pub bounds-next-j : goal.bounds-next-j
-bounds-next-j c =
-    let l = c.loop-j in
-    let p = c.requires in
-    omega (arith, p.spans.few-edges, p.nexts-blank.room, l.invariant.0)
-
-pub overflow_cast-first : goal.overflow_cast-first
-overflow_cast-first c =
-    let l = c.loop-j in
-    let p = c.requires in
-    omega (arith, p.spans.few-edges, l.invariant.0.0)
-
-pub bounds-first-i-in-loop-j : goal.bounds-first-i-in-loop-j
-bounds-first-i-in-loop-j c =
-    let l = c.loop-j in
-    let p = c.requires in
-    omega (arith, c.target-i.ensures.0, p.targets (l.j - 1) (omega arith), p.spans.few-nodes, p.firsts-blank.room, l.invariant.0.1.0)
 
 pub loop-j-preserved : goal.loop-j-preserved
 loop-j-preserved c =

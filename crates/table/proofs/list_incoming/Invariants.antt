@@ -8,6 +8,3 @@ use Rattle.table.proofs.list_incoming.Given as goal
 
 abbrev pub invariant-loop-j : goal.invariant-loop-j
 invariant-loop-j l = ((l.j ≤ edges l.t) × ((length l.first ≡ length l.initial.first) × (length l.next ≡ length l.initial.next))) × Begun (target l.t) (edges l.t) (nodes l.t) l.first l.next l.j
-
-abbrev pub decreases-loop-j : goal.decreases-loop-j
-decreases-loop-j l = l.j

@@ -11,8 +11,5 @@ use Rattle.table_ranks.proofs.lift.Given as goal
 
 abbrev pub invariant-loop-x : goal.invariant-loop-x
 invariant-loop-x l =
-    (l.x ≤ l.n) × ((length l.rk ≡ length l.initial.rk)
+    ((length l.rk ≡ length l.initial.rk)
     × ((k : ℕ) → AllRanked l.s l.initial.rk k → Lifting l.s l.links l.rk k l.x × (l.any ≡ false → (y : ℕ) → y < l.x → Above l.s l.rk (at l.links y))))
-
-abbrev pub decreases-loop-x : goal.decreases-loop-x
-decreases-loop-x l = l.n - l.x

@@ -6,7 +6,4 @@ use Rattle.table_ranks.specs.Chains.{Links}
 use Rattle.table_ranks.proofs.list_links.Given as goal
 
 abbrev pub invariant-loop-j : goal.invariant-loop-j
-invariant-loop-j l = ((l.n ≤ l.j) × (l.j ≤ l.e)) × ((length l.links ≡ length l.initial.links) × Links l.s l.links l.j l.n)
-
-abbrev pub decreases-loop-j : goal.decreases-loop-j
-decreases-loop-j l = l.e - l.j
+invariant-loop-j l = (l.n ≤ l.j) × ((length l.links ≡ length l.initial.links) × Links l.s l.links l.j l.n)

@@ -8,7 +8,4 @@ use Rattle.words.specs.Marks.{MarksOf, placed}
 use Rattle.table_ranks.proofs.mark_control.Given as goal
 
 abbrev pub invariant-loop-i : goal.invariant-loop-i
-invariant-loop-i l = (l.i ≤ l.n) × (l.n ≡ nodes l.s) × (length l.marks ≡ length l.initial.marks) × (Blank l.initial.marks → MarksOf (placed (λ x. is_control_node (kind l.s x)) (λ x. x) l.i) (nodes l.s) l.marks)
-
-abbrev pub decreases-loop-i : goal.decreases-loop-i
-decreases-loop-i l = l.n - l.i
+invariant-loop-i l = (length l.marks ≡ length l.initial.marks) × (Blank l.initial.marks → MarksOf (placed (λ x. is_control_node (kind l.s x)) (λ x. x) l.i) (nodes l.s) l.marks)

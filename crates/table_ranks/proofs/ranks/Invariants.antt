@@ -7,7 +7,4 @@ use Rattle.table_ranks.specs.Chains.{AllRanked}
 use Rattle.table_ranks.proofs.ranks.Given as goal
 
 abbrev pub invariant-loop-k : goal.invariant-loop-k
-invariant-loop-k l = ((1 ≤ l.k) × (l.k ≤ limits.chain_too_long)) × ((length l.rk ≡ limits.most_nodes) × AllRanked l.s l.rk l.k)
-
-abbrev pub decreases-loop-k : goal.decreases-loop-k
-decreases-loop-k l = limits.chain_too_long - l.k
+invariant-loop-k l = ((length l.rk ≡ limits.most_nodes) × AllRanked l.s l.rk l.k)

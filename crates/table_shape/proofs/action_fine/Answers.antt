@@ -8,5 +8,5 @@ use Rattle.table_shape.proofs.action_fine.Goals as goal
 pub returns-then-d-ge1 : goal.returns-then-d-ge1
 returns-then-d-ge1 c = λ t i h f. rw (any-count (is_control t) (into t i), ← h.control_in, le-leb _ _ c.if-d-ge1.true)
 
-pub returns : goal.returns
-returns c = λ t i h f. rw (any-count (is_control t) (into t i), ← h.control_in, lt-leb _ _ c.if-d-ge1.false, f) (flag_back _)
+pub returns-else-d-ge1 : goal.returns-else-d-ge1
+returns-else-d-ge1 c = λ t i h f. rw (any-count (is_control t) (into t i), ← h.control_in, lt-leb _ _ c.if-d-ge1.false, f) (flag_back _)

@@ -7,7 +7,4 @@ use Rattle.paper.specs.Table.{nodes, shape_fine}
 use Rattle.table_shape.proofs.bad_shape.Given as goal
 
 abbrev pub invariant-loop-i : goal.invariant-loop-i
-invariant-loop-i l = (l.i ≤ l.n) × (l.n ≡ nodes l.s) × ((k : ℕ) → k < l.i → shape_fine l.s limits k ≡ true)
-
-abbrev pub decreases-loop-i : goal.decreases-loop-i
-decreases-loop-i l = l.n - l.i
+invariant-loop-i l = (k : ℕ) → k < l.i → shape_fine l.s limits k ≡ true

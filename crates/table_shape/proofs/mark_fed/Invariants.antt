@@ -10,7 +10,4 @@ use Rattle.words.specs.Marks.{MarksOf, placed}
 use Rattle.table_shape.proofs.mark_fed.Given as goal
 
 abbrev pub invariant-loop-i : goal.invariant-loop-i
-invariant-loop-i l = (l.i ≤ l.n) × (l.n ≡ nodes l.s) × (length l.fed ≡ length l.initial.fed) × (Blank l.initial.fed → MarksOf (placed (λ p. is_input (kind l.s p) && leb 1 (lower l.s p)) (owner l.s) l.i) (nodes l.s) l.fed)
-
-abbrev pub decreases-loop-i : goal.decreases-loop-i
-decreases-loop-i l = l.n - l.i
+invariant-loop-i l = (length l.fed ≡ length l.initial.fed) × (Blank l.initial.fed → MarksOf (placed (λ p. is_input (kind l.s p) && leb 1 (lower l.s p)) (owner l.s) l.i) (nodes l.s) l.fed)

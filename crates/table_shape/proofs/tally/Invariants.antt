@@ -8,7 +8,4 @@ use Rattle.table_shape.proofs.Laws.{hits}
 use Rattle.table_shape.proofs.tally.Given as goal
 
 abbrev pub invariant-loop-j : goal.invariant-loop-j
-invariant-loop-j l = (l.j ≤ l.e) × (l.e ≡ edges l.s) × (length l.cells ≡ length l.initial.cells) × ((x : ℕ) → at l.cells x ≡ count (hits l.s x) (below l.j))
-
-abbrev pub decreases-loop-j : goal.decreases-loop-j
-decreases-loop-j l = l.e - l.j
+invariant-loop-j l = (length l.cells ≡ length l.initial.cells) × ((x : ℕ) → at l.cells x ≡ count (hits l.s x) (below l.j))

@@ -1,10 +1,12 @@
 -- `gate`: the guard's byte; and no entry in a list that is too short for one, or what the entries say. Assumes nothing.
-use mathlib.Core.Path.{refl}
-use Rattle.terms.proofs.TermLaws.{short_gate}
+use Rattle.terms.proofs.TermLaws.{closed_gate, short_gate}
 use Rattle.terms.proofs.gate.Goals as goal
 
+pub returns-then-g-e-ne1 : goal.returns-then-g-e-ne1
+returns-then-g-e-ne1 c = λ t goes y. closed_gate y c.args.e c.if-g-e-ne1.true
+
 pub returns-then-x-lt-ONE_ENTRY : goal.returns-then-x-lt-ONE_ENTRY
-returns-then-x-lt-ONE_ENTRY c = let a = c.args in λ t goes y. short_gate y a.e _ refl c.if-x-lt-ONE_ENTRY.true
+returns-then-x-lt-ONE_ENTRY c = λ t goes y. short_gate y c.args.e c.if-g-e-ne1.false c.if-x-lt-ONE_ENTRY.true
 
 pub returns : goal.returns
-returns c = let a = c.args in λ t goes y. c.bounded.ensures t a.g.now goes y refl
+returns c = λ t goes y. c.bounded.ensures t c.args.g.now goes y c.if-g-e-ne1.false

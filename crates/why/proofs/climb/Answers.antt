@@ -11,7 +11,7 @@ use Rattle.why.proofs.Asked.{climbed_empty, climbed_all}
 use Rattle.why.proofs.climb.Goals as goal
 
 pub loop-k-init : goal.loop-k-init
-loop-k-init c = (omega arith, λ d s. some-at_0 (levels d c.args.node) (how_many d))
+loop-k-init c = λ d s. some-at_0 (levels d c.args.node) (how_many d)
 
 pub is_left-requires : goal.is_left-requires
 is_left-requires c = c.requires
@@ -21,22 +21,19 @@ returns-then-not-is_left c = λ d s.
     let a = c.args in
     let l = c.loop-k in
     let n : Whether (levels d a.node) (how_many d) (suc l.k) false = rw c.if-not-is_left.true at (c.is_left.ensures (omega arith) d s) in
-    climbed_empty (levels d a.node) (how_many d) l.k (l.invariant.1 d s) n (l.k + 1) refl
+    climbed_empty (levels d a.node) (how_many d) l.k (l.invariant d s) n (l.k + 1) refl
 
 pub loop-k-preserved : goal.loop-k-preserved
-loop-k-preserved c = (
-  omega arith,
-  λ d s.
-      let a = c.args in
-      let l = c.loop-k in
-      let n : Whether (levels d a.node) (how_many d) (suc l.k) true = rw c.if-not-is_left.false at (c.is_left.ensures (omega arith) d s) in
-      let e : suc l.k ≡ l.k + 1 = omega arith in
-      subst (SomeLeft (levels d a.node) (how_many d)) e n,
-)
+loop-k-preserved c = λ d s.
+    let a = c.args in
+    let l = c.loop-k in
+    let n : Whether (levels d a.node) (how_many d) (suc l.k) true = rw c.if-not-is_left.false at (c.is_left.ensures (omega arith) d s) in
+    let e : suc l.k ≡ l.k + 1 = omega arith in
+    subst (SomeLeft (levels d a.node) (how_many d)) e n
 
 pub returns : goal.returns
 returns c = λ d s.
     let a = c.args in
     let l = c.loop-k in
     let e : l.k ≡ 5 = omega (arith, c.loop-k-test.false) in
-    climbed_all d a.node l.k e (l.invariant.1 d s)
+    climbed_all d a.node l.k e (l.invariant d s)

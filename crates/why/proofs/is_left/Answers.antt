@@ -2,16 +2,12 @@
 use Prim.Native.Nat.{suc}
 use Rattle.paper.specs.Operations.{levels}
 use Rattle.paper.specs.Choices.{how_many}
-use Rattle.why.proofs.Asked.{some-found, none_found}
+use Rattle.why.proofs.Asked.{whether-found}
 use Rattle.why.proofs.is_left.Goals as goal
 
 pub find-requires : goal.find-requires
 find-requires c = c.requires
 
-pub returns-in-Nothing : goal.returns-in-Nothing
-returns-in-Nothing c = λ l d s. let a = c.args in
-    none_found (levels d a.node) (how_many d) (suc a.k) c.find.result (c.find.ensures l d s) c.in-Nothing.is
-
-pub returns-in-Choice : goal.returns-in-Choice
-returns-in-Choice c = λ l d s. let a = c.args in
-    some-found (levels d a.node) (how_many d) (suc a.k) c.find.result (c.find.ensures l d s) _ c.in-Choice.is
+pub returns : goal.returns
+returns c = λ l d s. let a = c.args in
+    whether-found (levels d a.node) (how_many d) (suc a.k) c.find.result (c.find.ensures l d s) _ c.is_some.ensures

@@ -8,17 +8,14 @@ use Rattle.paper.proofs.Lists.{below_all, all_fails}
 use Rattle.marking.proofs.Laws.{edge-clear-is}
 use Rattle.marking.proofs.reading.edges_clear.Goals as goal
 
-pub loop-j-init : goal.loop-j-init
-loop-j-init c = (omega arith, λ t m h k l. absurd (omega arith))
-
 pub returns-then-tokens-j-ne0 : goal.returns-then-tokens-j-ne0
 returns-then-tokens-j-ne0 c = let l = c.loop-j in
     λ t m h. sym (all_fails (edge_clear t m) c.args.n l.j (omega arith) (edge-clear-is t m l.j _ (h.edge l.j (omega arith)) ∙ ne_eqb _ 0 c.if-tokens-j-ne0.true))
 
 pub loop-j-preserved : goal.loop-j-preserved
 loop-j-preserved c = let l = c.loop-j in
-    (omega arith, λ t m h. below_more _ _ (l.invariant.1 t m h) (edge-clear-is t m l.j _ (h.edge l.j (omega arith)) ∙ eq-eqb _ 0 c.if-tokens-j-ne0.false))
+    λ t m h. below_more _ _ (l.invariant t m h) (edge-clear-is t m l.j _ (h.edge l.j (omega arith)) ∙ eq-eqb _ 0 c.if-tokens-j-ne0.false)
 
 pub returns : goal.returns
 returns c = let n = c.args.n in
-    λ t m h. sym (below_all (edge_clear t m) n (λ k l. c.loop-j.invariant.1 t m h k (omega arith)))
+    λ t m h. sym (below_all (edge_clear t m) n (λ k l. c.loop-j.invariant t m h k (omega arith)))

@@ -1,5 +1,5 @@
 -- `edges_clear`: every count of an ended marking is 0, one after the other. Assumes nothing.
-use Prim.Native.Nat.{ℕ, ◌≤◌, ◌<◌, ◌-◌}
+use Prim.Native.Nat.{ℕ, ◌<◌}
 use mathlib.Core.Path.{◌≡◌}
 use mathlib.Core.Bool.{true}
 use mathlib.Core.List.{List}
@@ -8,7 +8,4 @@ use Rattle.marking.specs.Reading.{EdgesRead, edge_clear}
 use Rattle.marking.proofs.reading.edges_clear.Given as goal
 
 abbrev pub invariant-loop-j : goal.invariant-loop-j
-invariant-loop-j l = (l.j ≤ l.n) × ((t : List ℕ) (m : Marking) → EdgesRead t m l.tokens l.n → (k : ℕ) → k < l.j → edge_clear t m k ≡ true)
-
-abbrev pub decreases-loop-j : goal.decreases-loop-j
-decreases-loop-j l = l.n - l.j
+invariant-loop-j l = (t : List ℕ) (m : Marking) → EdgesRead t m l.tokens l.n → (k : ℕ) → k < l.j → edge_clear t m k ≡ true

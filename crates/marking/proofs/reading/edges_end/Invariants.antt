@@ -1,5 +1,5 @@
 -- `edges_end` reads the counts in order and takes up each. Assumes nothing.
-use Prim.Native.Nat.{◌≤◌, ◌-◌}
+use Prim.Native.Nat.{◌≤◌}
 use mathlib.Core.Path.{◌≡◌}
 use lib.ListN.{length}
 use Rattle.paper.specs.Marking.{Marking}
@@ -8,7 +8,4 @@ use Rattle.marking.proofs.reading.edges_end.Given as goal
 
 abbrev pub invariant-loop-j : goal.invariant-loop-j
 invariant-loop-j l =
-    (l.j ≤ l.n) × (l.place ≤ length l.b) × (length l.tokens ≡ length l.initial.tokens) × ((a : Marking) → EdgesSoFar l.t l.b a l.start l.tokens l.place l.j)
-
-abbrev pub decreases-loop-j : goal.decreases-loop-j
-decreases-loop-j l = l.n - l.j
+    (l.place ≤ length l.b) × (length l.tokens ≡ length l.initial.tokens) × ((a : Marking) → EdgesSoFar l.t l.b a l.start l.tokens l.place l.j)

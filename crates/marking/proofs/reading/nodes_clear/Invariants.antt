@@ -1,5 +1,5 @@
 -- `nodes_clear`: every node of an ended marking is clear, one after the other. Assumes nothing.
-use Prim.Native.Nat.{ℕ, ◌≤◌, ◌<◌, ◌-◌}
+use Prim.Native.Nat.{ℕ, ◌<◌}
 use mathlib.Core.Path.{◌≡◌}
 use mathlib.Core.Bool.{true}
 use mathlib.Core.List.{List}
@@ -9,7 +9,4 @@ use Rattle.marking.specs.Reading.{NodesRead, node_clear}
 use Rattle.marking.proofs.reading.nodes_clear.Given as goal
 
 abbrev pub invariant-loop-i : goal.invariant-loop-i
-invariant-loop-i l = (l.i ≤ l.n) × ((m : Marking) (b from : List ℕ) → NodesRead l.t m b from l.kept (nodes l.t) → (k : ℕ) → k < l.i → node_clear l.t m k ≡ true)
-
-abbrev pub decreases-loop-i : goal.decreases-loop-i
-decreases-loop-i l = l.n - l.i
+invariant-loop-i l = (m : Marking) (b from : List ℕ) → NodesRead l.t m b from l.kept (nodes l.t) → (k : ℕ) → k < l.i → node_clear l.t m k ≡ true

@@ -1,5 +1,5 @@
 -- `nodes_end` reads the nodes' fields in order and takes up each. The invariant: those passed are read, and take at most 65 bytes each. Assumes nothing.
-use Prim.Native.Nat.{◌+◌, ◌*◌, ◌≤◌, ◌-◌}
+use Prim.Native.Nat.{◌+◌, ◌*◌, ◌≤◌}
 use mathlib.Core.Path.{◌≡◌}
 use mathlib.Core.Bool.{Bool}
 use lib.ListN.{length}
@@ -8,8 +8,5 @@ use Rattle.marking.proofs.reading.nodes_end.Given as goal
 
 abbrev pub invariant-loop-i : goal.invariant-loop-i
 invariant-loop-i l =
-    (l.i ≤ l.n) × (l.place ≤ length l.b) × (l.place ≤ 4 + 65 * l.i) × (length l.from ≡ length l.initial.from) × (length l.kept ≡ length l.initial.kept)
+    (l.place ≤ length l.b) × (l.place ≤ 4 + 65 * l.i) × (length l.from ≡ length l.initial.from) × (length l.kept ≡ length l.initial.kept)
     × ((e : Bool) → NodesSoFar l.t l.b e l.from l.kept l.place l.i)
-
-abbrev pub decreases-loop-i : goal.decreases-loop-i
-decreases-loop-i l = l.n - l.i

@@ -18,7 +18,7 @@ pub wide-n-requires : goal.wide-n-requires
 wide-n-requires c = tt
 
 pub loop-k-init : goal.loop-k-init
-loop-k-init c = (omega arith, λ j l. absurd (omega arith))
+loop-k-init c = λ j l. absurd (omega arith)
 
 pub bound_fine-requires : goal.bound_fine-requires
 bound_fine-requires c =
@@ -36,11 +36,11 @@ returns-then-not-bound_fine c =
     sym (bounds-fail a.t.now a.x.now f c.loop-k.k (omega (arith, c.loop-k-test.true, n)) (sym c.bound_fine.ensures ∙ c.if-not-bound_fine.true))
 
 pub loop-k-preserved : goal.loop-k-preserved
-loop-k-preserved c = (omega arith, below_more _ _ c.loop-k.invariant.1 (sym c.bound_fine.ensures ∙ c.if-not-bound_fine.false))
+loop-k-preserved c = below_more _ _ c.loop-k.invariant (sym c.bound_fine.ensures ∙ c.if-not-bound_fine.false)
 
 pub returns : goal.returns
 returns c =
     let a = c.args in
     let f = sym c.frame_fine.ensures ∙ c.if-not-frame_fine.false in
     let n = count-read a.x.now _ c.wide-n.ensures.0 in
-    sym (bounds_pass a.t.now a.x.now f (λ k l. c.loop-k.invariant.1 k (omega (arith, l, n, c.loop-k-test.false))))
+    sym (bounds_pass a.t.now a.x.now f (λ k l. c.loop-k.invariant k (omega (arith, l, n, c.loop-k-test.false))))

@@ -6,7 +6,7 @@ use Rattle.terms.proofs.BoundLaws.{edge-read, found_here, found_none, found_pass
 use Rattle.terms.proofs.bounds.find.Goals as goal
 
 pub loop-k-init : goal.loop-k-init
-loop-k-init c = (omega arith, λ j l. absurd (omega arith))
+loop-k-init c = λ j l. absurd (omega arith)
 
 pub bounds-x-k : goal.bounds-x-k
 bounds-x-k c = let h = c.requires in omega (arith, c.loop-k-test.true, h.inside (omega (arith, c.loop-k-test.true)))
@@ -17,22 +17,22 @@ wide-f-requires c = tt
 pub returns-then-e-f : goal.returns-then-e-f
 returns-then-e-f c =
     let a = c.args in
-    λ t f. found_here f a.e a.n c.requires _ c.loop-k-test.true (sym (edge-read a.x.now _ _ c.wide-f.ensures.0) ∙ sym c.if-e-f.true)
+    (c.loop-k-test.true, λ t f. found_here f a.e a.n c.requires _ c.loop-k-test.true (sym (edge-read a.x.now _ _ c.wide-f.ensures.0) ∙ sym c.if-e-f.true))
 
 pub returns-then-e-f-2 : goal.returns-then-e-f-2
 returns-then-e-f-2 c =
     let a = c.args in
     let r = edge-read a.x.now c.loop-k.k _ c.wide-f.ensures.0 in
-    λ t f. found_passed f a.e a.n c.requires c.loop-k.k c.loop-k-test.true c.loop-k.invariant.1 (omega (arith, c.if-e-f-2.true, r))
+    (tt, λ t f. found_passed f a.e a.n c.requires c.loop-k.k c.loop-k-test.true c.loop-k.invariant (omega (arith, c.if-e-f-2.true, r)))
 
 pub loop-k-preserved : goal.loop-k-preserved
 loop-k-preserved c =
     let a = c.args in
     let r = edge-read a.x.now c.loop-k.k _ c.wide-f.ensures.0 in
     let u : a.e ≡ c.wide-f.result → ⊥ = c.if-e-f.false in
-    (omega arith, below_more _ _ c.loop-k.invariant.1 (omega (arith, c.if-e-f-2.false, u, r)))
+    below_more _ _ c.loop-k.invariant (omega (arith, c.if-e-f-2.false, u, r))
 
 pub returns : goal.returns
 returns c =
     let a = c.args in
-    λ t f. found_none f a.e a.n c.requires (λ j l. c.loop-k.invariant.1 j (omega (arith, l, c.loop-k-test.false)))
+    (tt, λ t f. found_none f a.e a.n c.requires (λ j l. c.loop-k.invariant j (omega (arith, l, c.loop-k-test.false))))
