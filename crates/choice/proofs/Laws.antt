@@ -133,7 +133,7 @@ unfolding numbers
 numbers-none c = refl
 
 -- a taken end's number has room if all have
-numbers-room : (c n k : ℕ) → k < n → has c k ≡ true → length (numbers c k) < length (numbers c n)
+pub numbers-room : (c n k : ℕ) → k < n → has c k ≡ true → length (numbers c k) < length (numbers c n)
 unfolding numbers
 numbers-room c n k l e =
     let rest = from (suc k) (n - suc k) in
@@ -150,7 +150,7 @@ pub writing_none : (c : ℕ) (old : List ℕ) → Writing c 0 old old 0
 writing_none c old = record { next = rw (numbers-none c); bytes = rw (numbers-none c) }
 
 module _ {c k : ℕ} {old new : List ℕ} {to : ℕ} (w : Writing c k old new to) where
-  writing_long : length new ≡ length old
+  pub writing_long : length new ≡ length old
   writing_long = ap length w.bytes ∙ length-sets old 0 (numbers c k)
 
   -- a taken end's number has room

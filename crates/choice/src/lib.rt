@@ -7,7 +7,7 @@ ghost use Rattle.paper.specs.Lists.{has};
 ghost use Rattle.paper.specs.Answers.{good};
 ghost use Rattle.paper.specs.Operations.{in_room, Reply};
 ghost use Rattle.choice.specs.Choice.{choice_read, numbers};
-ghost use Rattle.wire.specs.Refusals.{said, word_of};
+ghost use Rattle.wire.specs.Refusals.{said, word_of, BelowRefusals};
 ghost use Rattle.paper.specs.Limits.{limits};
 
 use wire::Refusal;
@@ -74,7 +74,7 @@ fn write_choice(c: u32, n: usize, out: &mut [u8])
 // The choice c of n ends, if the room is enough (row 17).
 pub fn tell(c: u32, n: usize, out: &mut [u8]) -> Result<usize, Refusal>
     requires { n ≤ limits.most_ends }
-    ensures { Reply (in_room (length out.old) (good (numbers c n))) (word_of result) out.old out.new }
+    ensures { Reply (in_room (length out.old) (good (numbers c n))) (word_of result) out.old out.new × BelowRefusals result }
 {
     let len = choice_size(c, n);
     if out.len() < len {

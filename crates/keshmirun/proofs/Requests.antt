@@ -3,9 +3,12 @@ use mathlib.Core.Path.{◌≡◌, refl, sym, ap, subst, ◌∙◌}
 use mathlib.Core.Bool.{Bool, true}
 use mathlib.Core.List.{List}
 use Prim.Native.Nat.{ℕ, ◌+◌, ◌^◌, ◌≤◌, ◌<◌}
+use native.Mathlib.Nat.{lt_of_lt_of_le}
 use native.Mathlib.Omega.{arith}
 use lib.ListN.{length}
+use lib.Pow.{pow_mono}
 use Rattle.paper.specs.Answers.{refused, good}
+use Rattle.paper.specs.Limits.{limits}
 use Rattle.paper.specs.Offers.{Terms}
 use Rattle.paper.specs.Choices.{board}
 use Rattle.paper.specs.Operations.{sheet, step, PickOn, Pick, WhyIf, Why, packed, in_room, Reply, Leaves}
@@ -30,7 +33,7 @@ use Rattle.keshmirun.specs.Asking.{Counted, shows, Responds}
 
 module _ (t b : List ℕ) (w : Terms) (ks : List ℕ) where
   -- ---- rows 1 to 8, and 18
-  asked_refused : (q : Request) (n p word : ℕ) (out : List ℕ) → board t b w ≡ refused n p → word ≡ packed n p 0 → Responds q t b w ks word out out
+  pub asked_refused : (q : Request) (n p word : ℕ) (out : List ℕ) → board t b w ≡ refused n p → word ≡ packed n p 0 → Responds q t b w ks word out out
   unfolding sheet Pick Why step Counted
   asked_refused Sheet n p word out e h = record { answer = refused n p; allowed = sym (rw e); reply = (h, refl) }
   asked_refused (Choice (PickFor i)) n p word out e h = record { answer = refused n p; allowed = rw e refl; reply = (h, refl) }
@@ -38,12 +41,15 @@ module _ (t b : List ℕ) (w : Terms) (ks : List ℕ) where
   asked_refused (Choice Step) n p word out e h = record { answer = refused n p; allowed = sym (rw e); reply = (h, refl) }
   asked_refused (Choice (Count i k)) n p word out e h = (rw e h, refl)
 
+  pub table-refused : (q : Request) (n p word : ℕ) (out : List ℕ) → table_read t ≡ refused n p → word ≡ packed n p 0 → Responds q t b w ks word out out
+  table-refused q n p word out e h = asked_refused q n p word out (board-refused t b w n p e) h
+
   -- by the refusal's name
   pub asked_err : (q : Request) (v : Refusal) (out : List ℕ) → board t b w ≡ refused (number v) (place v) → Responds q t b w ks (word_of (Err v)) out out
   asked_err q v out e = asked_refused q (number v) (place v) _ out e refl
 
-  pub table-refused : (q : Request) (v : Refusal) (out : List ℕ) → table_read t ≡ refused (number v) (place v) → Responds q t b w ks (word_of (Err v)) out out
-  table-refused q v out e = asked_err q v out (board-refused t b w (number v) (place v) e)
+  pub table_err : (q : Request) (v : Refusal) (out : List ℕ) → table_read t ≡ refused (number v) (place v) → Responds q t b w ks (word_of (Err v)) out out
+  table_err q v out e = table-refused q (number v) (place v) _ out e refl
 
   -- ---- on a board
   module _ {o : Offers} {e : Ends} {x : Held} (y : Standing t b o e x) (is-board : board t b w ≡ good y.on) (q : Request) (word : ℕ) (out after : List ℕ) where
@@ -62,6 +68,10 @@ module _ (t b : List ℕ) (w : Terms) (ks : List ℕ) where
     pub count-leaves : (i k : ℕ) → q ≡ Choice (Count i k) → (1 ≤ word) × (word < 2 ^ (e.count + 22)) → Responds q t b w ks word out out
     unfolding Counted
     count-leaves i k f h = rw f (rw (is-board, ← y.stands.seated.number) h, refl)
+
+-- ---- a number of states is no refusal's word
+pub counts_apart : (m x : ℕ) → m ≤ limits.most_ends → x < 2 ^ (m + 22) → x < 2 ^ 48
+counts_apart m x f l = let k : m + 22 ≤ 48 = omega arith in lt_of_lt_of_le l (pow_mono k)
 
 -- ---- a sheet: its paths were put together
 module _ {show : Bool} {t b : List ℕ} {w : Terms} {x : Held} {m : List ℕ} {c : ℕ} {s : EndsLent} {n : ℕ} (l : Laid show t b w x m c s n) (r : EndsRoom s)

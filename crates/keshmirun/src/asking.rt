@@ -6,7 +6,7 @@ ghost use Rattle.paper.specs.Offers.{terms};
 ghost use Rattle.table.specs.Reading.{table_read};
 ghost use Rattle.terms.specs.Terms.{terms_fine};
 ghost use Rattle.marking_held.specs.MarkingHeld.{LiveMarking, fields_held};
-ghost use Rattle.wire.specs.Refusals.{word_of};
+ghost use Rattle.wire.specs.Refusals.{word_of, BelowRefusals};
 ghost use Rattle.keshmirun.specs.Asking.{shows, Responds};
 
 use marking::Fields;
@@ -53,7 +53,7 @@ fn respond(
     out: &mut [u8],
 ) -> Result<usize, Refusal>
     requires { (table_read t.now ≡ good table) × LiveMarking t.now b.now (fields_held fields) × (terms_fine t.now g.now bounds.now ≡ good tt) }
-    ensures { Responds request t.now b.now (terms g.now bounds.now) choice.now (word_of result) out.old out.new }
+    ensures { Responds request t.now b.now (terms g.now bounds.now) choice.now (word_of result) out.old out.new × BelowRefusals result }
 {
     let mut rows = [0u64; offers::CELLS];
     let mut found = [0u8; offers::MOST_ENDS];
@@ -100,7 +100,7 @@ pub fn ask(
     choice: &[u8],
     out: &mut [u8],
 ) -> Result<usize, Refusal>
-    ensures { Responds request t.now b.now (terms g.now bounds.now) choice.now (word_of result) out.old out.new }
+    ensures { Responds request t.now b.now (terms g.now bounds.now) choice.now (word_of result) out.old out.new × BelowRefusals result }
 {
     let table = table_read::read(t)?;
     let mut from = [0u16; Table::MOST_NODES];

@@ -18,7 +18,7 @@ ghost use Rattle.paper.specs.Operations.{
   Pick,
   Why,
 };
-ghost use Rattle.wire.specs.Refusals.{word_of};
+ghost use Rattle.wire.specs.Refusals.{word_of, BelowRefusals};
 ghost use Rattle.keshmirun.specs.Asking.{Counted};
 
 use asking::{Query, Request, ask};
@@ -35,7 +35,7 @@ pub fn check(table: &[u8]) -> u64
 }
 
 fn try_check(table: &[u8]) -> Result<usize, Refusal>
-    ensures { Leaves (Only (checked table.now)) (word_of result) [] [] }
+    ensures { Leaves (Only (checked table.now)) (word_of result) [] [] × BelowRefusals result }
 {
     table_read::read(table)?;
     Ok(0)
@@ -49,7 +49,7 @@ pub fn start(table: &[u8], values: &[u8], out: &mut [u8]) -> u64
 }
 
 fn try_start(table: &[u8], values: &[u8], out: &mut [u8]) -> Result<usize, Refusal>
-    ensures { Leaves (Only (started table.now values.now)) (word_of result) out.old out.new }
+    ensures { Leaves (Only (started table.now values.now)) (word_of result) out.old out.new × BelowRefusals result }
 {
     let x = table_read::read(table)?;
     start_finish::start(table, x, values, out)
@@ -160,7 +160,7 @@ fn try_finish(
     values: &[u8],
     out: &mut [u8],
 ) -> Result<usize, Refusal>
-    ensures { Leaves (Only (finished table.now marking.now action values.now)) (word_of result) out.old out.new }
+    ensures { Leaves (Only (finished table.now marking.now action values.now)) (word_of result) out.old out.new × BelowRefusals result }
 {
     let x = table_read::read(table)?;
     start_finish::finish(table, x, marking, action, values, out)

@@ -13,7 +13,7 @@ ghost use Rattle.paper.specs.Operations.{in_room, Reply};
 ghost use Rattle.table.specs.Reading.{Spans, table_read};
 ghost use Rattle.wire.specs.Totals.{total};
 ghost use Rattle.marking_held.specs.MarkingHeld.{MarkingHeld, HeldInside, HeldLengths, held_in};
-ghost use Rattle.wire.specs.Refusals.{word_of};
+ghost use Rattle.wire.specs.Refusals.{word_of, BelowRefusals};
 ghost use Rattle.marking_write.specs.Writing.{NodeInside, NodesLong, nodes_held, size_as, most_node_size, node_size, edge_size, size_of, most_size};
 ghost use Rattle.marking_write.specs.Writing.{stock_bytes, field_bytes, node_bytes, edge_bytes};
 
@@ -202,10 +202,11 @@ pub fn reply(
 ) -> Result<usize, Refusal>
     requires { (table_read t.now ≡ good table) × HeldLengths (held_in from.now kept.now place.now more.now runs.now tokens.now)
         × HeldInside t.now old.now extra.now (held_in from.now kept.now place.now more.now runs.now tokens.now) }
-    ensures { (m : Marking) → MarkingHeld t.now m old.now extra.now
+    ensures { ((m : Marking) → MarkingHeld t.now m old.now extra.now
         (held_in from.now kept.now place.now more.now runs.now tokens.now)
         → state ≡ one_if m.ended
-        → Reply (in_room (length out.old) (good (encode t.now m))) (word_of result) out.old out.new }
+        → Reply (in_room (length out.old) (good (encode t.now m))) (word_of result) out.old out.new)
+        × BelowRefusals result }
 {
     let len = size(t, table, kept, more);
     if out.len() < len {

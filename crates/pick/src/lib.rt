@@ -11,7 +11,7 @@ ghost use Rattle.offers.specs.Struct.{Full};
 ghost use Rattle.ends_masks.specs.Seating.{EndsFull, Stands};
 ghost use Rattle.pick_bounds.specs.Net.{held};
 ghost use Rattle.pick_rules.specs.Rules.{most_rules, net_cells, holds};
-ghost use Rattle.wire.specs.Refusals.{word_of};
+ghost use Rattle.wire.specs.Refusals.{word_of, BelowRefusals};
 ghost use Rattle.pick.specs.Picking.{Answered};
 ghost use Rattle.paper.specs.Limits.{limits};
 
@@ -103,7 +103,7 @@ pub fn states(
 // What pick answers of n ends, where `found` is what was looked for: row 13, or a choice.
 fn conclude(found: Option<u32>, n: usize, node: u8, out: &mut [u8]) -> Result<usize, Refusal>
     requires { n ≤ limits.most_ends }
-    ensures { (d : Board) → n ≡ how_many d → Answered (wanted d node) (how_many d) found → acceptable d 0 ≡ true → Leaves (PickOn d node) (word_of result) out.old out.new }
+    ensures { ((d : Board) → n ≡ how_many d → Answered (wanted d node) (how_many d) found → acceptable d 0 ≡ true → Leaves (PickOn d node) (word_of result) out.old out.new) × BelowRefusals result }
 {
     match found {
         None => Err(Refusal::NoChoice(node)),
@@ -122,7 +122,7 @@ pub fn pick(
     out: &mut [u8],
 ) -> Result<usize, Refusal>
     requires { (table_read t.now ≡ good table) × Full offers × EndsFull ends × (length kept ≡ limits.most_nodes) }
-    ensures { (d : Board) → Stands t.now d offers ends kept kept → Leaves (PickOn d node) (word_of result) out.old out.new }
+    ensures { ((d : Board) → Stands t.now d offers ends kept kept → Leaves (PickOn d node) (word_of result) out.old out.new) × BelowRefusals result }
 {
     let found = choose(t, table, offers, ends, kept, node);
     conclude(found, ends.count, node, out)

@@ -1,5 +1,5 @@
 // What the rules of a net ask of the ends that are open between bounds, and whether more is asked for than can be had: than goes together, or than a rule
-// has room for. 'Hopeless' is sure; that it isn't said where nothing is left is no promise. Assumes no more than its `requires`.
+// has room for. That nothing is left is sure where it is said; that it isn't said where nothing is left is no promise. Assumes no more than its `requires`.
 #![tactic(auto)]
 
 ghost use Rattle.std.specs.Prelude.{◌≡◌, Bool, true, None, ℕ, ◌≤◌, ◌<◌, length, take};

@@ -76,10 +76,10 @@ fn next_of(ends: u32, view: u32) -> Option<usize>
     ensures { (k : ℕ) → result ≡ Some k → k < 32 }
 {
     if ends & view != 0 {
-        return Some(pick_bounds::first_of(ends & view));
+        return Some((ends & view).trailing_zeros() as usize);
     }
     if ends != 0 {
-        return Some(pick_bounds::first_of(ends));
+        return Some(ends.trailing_zeros() as usize);
     }
     None
 }

@@ -9,7 +9,7 @@ ghost use Rattle.paper.specs.Limits.{limits};
 ghost use Rattle.paper.specs.Answers.{good};
 ghost use Rattle.paper.specs.Operations.{in_room, Reply};
 ghost use Rattle.wire.specs.Totals.{total};
-ghost use Rattle.wire.specs.Refusals.{word_of};
+ghost use Rattle.wire.specs.Refusals.{word_of, BelowRefusals};
 ghost use Rattle.offers.specs.Rows.{row_cells};
 ghost use Rattle.ends_paths.specs.Blocks.{most_blocks, block_cells, first_block, block_start};
 ghost use Rattle.sheet_write.specs.Listing.{value_shown, front_shown, path_shown, path_of, path_takes, end_takes, most_end_size, sheet_takes, most_sheet_size, end_shown, sheet_shown, Measured, Shows};
@@ -180,7 +180,7 @@ pub fn show(
     out: &mut [u8],
 ) -> Result<usize, Refusal>
     requires { Shows rows.now ends.now order.now lens.now cells.now n }
-    ensures { Reply (in_room (length out.old) (good (sheet_shown rows.now ends.now order.now lens.now cells.now n))) (word_of result) out.old out.new }
+    ensures { Reply (in_room (length out.old) (good (sheet_shown rows.now ends.now order.now lens.now cells.now n))) (word_of result) out.old out.new × BelowRefusals result }
 {
     let len = size(rows, ends, order, lens, n);
     if out.len() < len {

@@ -13,7 +13,7 @@ ghost use Rattle.marking_held.specs.MarkingHeld.{HeldLengths, LiveMarking, held_
 ghost use Rattle.marking_give.specs.Giving.{fires_as};
 ghost use Rattle.start_finish.specs.Delivered.{Deliverable, delivered};
 ghost use Rattle.start_finish.specs.Running.{runs_in};
-ghost use Rattle.wire.specs.Refusals.{said, word_of};
+ghost use Rattle.wire.specs.Refusals.{said, word_of, BelowRefusals};
 
 use marking_give::{Firing, Listing};
 use table::Table;
@@ -34,11 +34,12 @@ fn deliver(
 ) -> Result<usize, Refusal>
     requires { (table_read t.now ≡ good table) × HeldLengths (held_of from.now kept.now tokens.old)
         × Deliverable t.now listing.kind listing.owner old.now (held_of from.now kept.now tokens.old) }
-    ensures { (d : Deliverable t.now listing.kind listing.owner old.now
+    ensures { ((d : Deliverable t.now listing.kind listing.owner old.now
         (held_of from.now kept.now tokens.old))
         → Reply (in_room (length out.old)
         (delivered t.now listing.kind listing.owner (fires_as t.now firing) d.current values.now))
-        (word_of result) out.old out.new }
+        (word_of result) out.old out.new)
+        × BelowRefusals result }
 {
     let mut place = [0u16; Table::MOST_NODES];
     let mut more = [0u8; Table::MOST_NODES];
@@ -94,10 +95,11 @@ fn conclude(
 ) -> Result<usize, Refusal>
     requires { (table_read t.now ≡ good table) × (a < table.nodes) × (is_action (kind t.now a) ≡ true)
         × LiveMarking t.now b.now (held_of from.now kept.old tokens.old) }
-    ensures { (l : LiveMarking t.now b.now (held_of from.now kept.old tokens.old))
+    ensures { ((l : LiveMarking t.now b.now (held_of from.now kept.old tokens.old))
         → Reply (in_room (length out.old)
         (delivered t.now 4 a (λ i. eqb i a) (idled t.now a l.current) values.now))
-        (word_of result) out.old out.new }
+        (word_of result) out.old out.new)
+        × BelowRefusals result }
 {
     marking_held::idle(t, table, a, kept);
     let listing = Listing {
@@ -121,7 +123,7 @@ fn conclude(
 // start on a table that was read.
 pub fn start(t: &[u8], table: Table, values: &[u8], out: &mut [u8]) -> Result<usize, Refusal>
     requires { table_read t.now ≡ good table }
-    ensures { Leaves (Only (started t.now values.now)) (word_of result) out.old out.new }
+    ensures { Leaves (Only (started t.now values.now)) (word_of result) out.old out.new × BelowRefusals result }
 {
     let listing = Listing {
         kind: Table::INCOMING,
@@ -155,7 +157,7 @@ pub fn finish(
     out: &mut [u8],
 ) -> Result<usize, Refusal>
     requires { table_read t.now ≡ good table }
-    ensures { Leaves (Only (finished t.now b.now action values.now)) (word_of result) out.old out.new }
+    ensures { Leaves (Only (finished t.now b.now action values.now)) (word_of result) out.old out.new × BelowRefusals result }
 {
     let mut from = [0u16; Table::MOST_NODES];
     let mut kept = [0u8; Table::MOST_NODES];

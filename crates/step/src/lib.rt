@@ -10,7 +10,7 @@ ghost use Rattle.table.specs.Reading.{table_read};
 ghost use Rattle.offers.specs.Struct.{Full};
 ghost use Rattle.ends_masks.specs.Seating.{EndsFull};
 ghost use Rattle.marking_held.specs.MarkingHeld.{FieldsLengths, fields_held};
-ghost use Rattle.wire.specs.Refusals.{word_of};
+ghost use Rattle.wire.specs.Refusals.{word_of, BelowRefusals};
 ghost use Rattle.step.specs.Stepping.{chosen, Standing};
 
 use ends_masks::Ends;
@@ -32,8 +32,9 @@ pub fn step(
 ) -> Result<usize, Refusal>
     requires { (table_read t.now ≡ good table) × Full offers × EndsFull ends × FieldsLengths fields
         × Standing t.now b.now offers ends (fields_held fields) }
-    ensures { (s : Standing t.now b.now offers ends (fields_held fields))
-        → Reply (in_room (length out.old) (chosen t.now s.on choice.now)) (word_of result) out.old out.new }
+    ensures { ((s : Standing t.now b.now offers ends (fields_held fields))
+        → Reply (in_room (length out.old) (chosen t.now s.on choice.now)) (word_of result) out.old out.new)
+        × BelowRefusals result }
 {
     let c = choice::read_choice(choice, ends.count)?;
     let mut kept = fields.kept;

@@ -13,7 +13,7 @@ ghost use Rattle.offers.specs.Struct.{Full};
 ghost use Rattle.pick_bounds.specs.Net.{held};
 ghost use Rattle.ends_masks.specs.Seating.{EndsFull};
 ghost use Rattle.pick_rules.specs.Rules.{most_rules, net_cells, Roomy, holds};
-ghost use Rattle.wire.specs.Refusals.{word_of};
+ghost use Rattle.wire.specs.Refusals.{word_of, BelowRefusals};
 ghost use Rattle.pick.specs.Picking.{Answered};
 ghost use Rattle.why.specs.Reasons.{OnBoard, OwnOnly, OwnEnds, asks, Whether};
 
@@ -246,7 +246,7 @@ pub fn states(
 
 // One byte, if there is room for it (row 17).
 fn tell(byte: u8, out: &mut [u8]) -> Result<usize, Refusal>
-    ensures { Reply (in_room (length out.old) (good (byte ∷ []))) (word_of result) out.old out.new }
+    ensures { Reply (in_room (length out.old) (good (byte ∷ []))) (word_of result) out.old out.new × BelowRefusals result }
 {
     if out.is_empty() {
         return Err(Refusal::Room);
@@ -266,7 +266,7 @@ pub fn why(
     out: &mut [u8],
 ) -> Result<usize, Refusal>
     requires { (table_read t.now ≡ good table) × Full offers × EndsFull ends × (length kept ≡ limits.most_nodes) }
-    ensures { OnBoard t.now offers ends kept (λ d. Leaves (WhyIf (good d) node) (word_of result) out.old out.new) }
+    ensures { OnBoard t.now offers ends kept (λ d. Leaves (WhyIf (good d) node) (word_of result) out.old out.new) × BelowRefusals result }
 {
     let byte = reason(t, table, offers, ends, kept, node);
     tell(byte, out)

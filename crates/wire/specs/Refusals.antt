@@ -1,5 +1,5 @@
 -- Refusals by name, with the paper's number and place of each; and what an answer of the code says in the paper's words. Assumes nothing.
-use Rattle.std.specs.Prelude.{ℕ, Result, Ok, Err, Some, None}
+use Rattle.std.specs.Prelude.{ℕ, ◌<◌, ◌^◌, Result, Ok, Err, IfOk, Some, None}
 use Rattle.std.specs.Prelude.{Option}
 use Rattle.std.proofs.Math.Option.{Option as Maybe, none, some}
 use Rattle.paper.specs.Answers.{Answer, refused, good}
@@ -63,3 +63,7 @@ found None = none
 abbrev pub word_of : Result ℕ Refusal → ℕ
 word_of (Ok n) = packed 0 0 n
 word_of (Err e) = packed (number e) (place e) 0
+
+-- what it answers, if it doesn't refuse, is below the word of any refusal, so that the word tells which of the two it does
+abbrev pub BelowRefusals : Result ℕ Refusal → Type 0
+BelowRefusals r = IfOk r (λ n. n < 2 ^ 48)

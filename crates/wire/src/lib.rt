@@ -128,7 +128,10 @@ pub fn copy(src: &[u8], from: usize, n: usize, out: &mut [u8], to: usize)
     requires { (from + n ≤ length src.now) × (to + n ≤ length out.old) }
     ensures { out.new ≡ sets out.old to (take n (drop from src.now)) }
 {
-    out[to..to + n].copy_from_slice(&src[from..from + n]);
+    // kept: a loop, since of the library's copy the compiler makes a call of memmove, which no app need bring
+    for k in 0..n {
+        out[to + k] = src[from + k];
+    }
 }
 
 // The head of what is stored: the number of bytes after the length, version 1, and one byte more.

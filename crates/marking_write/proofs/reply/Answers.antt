@@ -11,7 +11,7 @@ size-len-requires c = let n = nodes_most c.args.t.now c.requires.0 in
     (c.requires.0, omega (arith, n, c.requires.1.kept-long), omega (arith, n, c.requires.1.more-long))
 
 pub returns-then-out-len : goal.returns-then-out-len
-returns-then-out-len c = λ m h f. short-is h c.args.out.now c.size-len.ensures.0 c.if-out-len.true refl
+returns-then-out-len c = (λ m h f. short-is h c.args.out.now c.size-len.ensures.0 c.if-out-len.true refl, tt)
 
 pub write_nodes-next-requires : goal.write_nodes-next-requires
 unfolding size_of
@@ -39,6 +39,8 @@ write_edges-requires c = let p = c.requires in (
 )
 
 pub returns : goal.returns
-returns c = let w = c.write_nodes-next.ensures in
-    λ m h f. full_is h c.args.out.now c.size-len.ensures.0 c.if-out-len.false w.0 f w.1 c.write_edges.ensures
-    c.write_head.ensures refl
+returns c = let w = c.write_nodes-next.ensures in (
+  λ m h f. full_is h c.args.out.now c.size-len.ensures.0 c.if-out-len.false w.0 f w.1 c.write_edges.ensures
+      c.write_head.ensures refl,
+  omega (arith, c.size-len.ensures.2),
+)

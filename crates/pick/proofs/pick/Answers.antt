@@ -3,4 +3,4 @@ use Rattle.pick.proofs.Laws.{fits_empty}
 use Rattle.pick.proofs.pick.Goals as goal
 
 pub returns : goal.returns
-returns c = λ d s. c.conclude.ensures d s.seated.number (c.choose-found.ensures d s) (fits_empty s)
+returns c = (λ d s. c.conclude.ensures.0 d s.seated.number (c.choose-found.ensures d s) (fits_empty s), c.conclude.ensures.1)

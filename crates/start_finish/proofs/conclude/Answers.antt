@@ -37,6 +37,8 @@ returns c =
     let held : (l : LiveMarking t b (held_of c.args.from.now c.args.kept.now c.args.tokens.now)) → MarkingHeld t (idledOf t c.args.a l.current) b [] idled =
     λ l. c.idle.ensures c.requires.2 l.current b c.args.from.now c.args.tokens.now l.held in
     let d = c.deliver in
-    let a = c.args in
-    λ l. finish-reply t b l is-bytes a.a idled (held l) a.values.now _ a.out.now
-    d.new.out d.ensures
+    let a = c.args in (
+      λ l. finish-reply t b l is-bytes a.a idled (held l) a.values.now _ a.out.now
+          d.new.out d.ensures.0,
+      d.ensures.1,
+    )

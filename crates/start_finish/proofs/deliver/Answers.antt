@@ -28,9 +28,12 @@ returns-in_err-read_values c =
     let r = c.read_values in
     let why = c.in_err-read_values.field-0.0 in
     let p = err_from_is_err_and c.from_residual.result c.from_residual.ensures.1 in
-    rw (p.1, p.2) (λ d. refused-reply d (fires_as a.t.now a.firing) a.values.now _ _ _ a.out.now
-    (gives_15 a.t.now a.listing.kind a.listing.owner (fires_as a.t.now a.firing) d.current a.values.now a.old.now
-    held d.givable r.new.place r.new.more why c.in_err-read_values.ensures) refl)
+    rw (p.1, p.2) (
+      λ d. refused-reply d (fires_as a.t.now a.firing) a.values.now _ _ _ a.out.now
+          (gives_15 a.t.now a.listing.kind a.listing.owner (fires_as a.t.now a.firing) d.current a.values.now a.old.now
+          held d.givable r.new.place r.new.more why c.in_err-read_values.ensures) refl,
+      tt,
+    )
 
 pub stocks_fit-requires : goal.stocks_fit-requires
 stocks_fit-requires c = let n = nodes_most c.args.t.now c.requires.0 in
@@ -41,13 +44,15 @@ returns-then-not-stocks_fit c =
     let a = c.args in
     let held : Held = held_of a.from.now a.kept.now a.tokens.now in
     let fires : ℕ → Bool = fires_as a.t.now a.firing in
-    let w = c.read_values.new in
-    λ d.
-    let am = amounts a.t.now a.listing.kind a.listing.owner fires d.current a.values.now a.old.now held d.givable w.place w.more c.in_ok-read_values.ensures in
-    refused-reply d fires a.values.now 16 0 _ a.out.now
-    (gives_16_stocks a.t.now a.listing.kind a.listing.owner fires d.current a.values.now a.old.now held d.givable w.place w.more c.in_ok-read_values.ensures
-    (sym (c.stocks_fit.ensures _ am) ∙ c.if-not-stocks_fit.true))
-    refl
+    let w = c.read_values.new in (
+      λ d.
+          let am = amounts a.t.now a.listing.kind a.listing.owner fires d.current a.values.now a.old.now held d.givable w.place w.more c.in_ok-read_values.ensures in
+          refused-reply d fires a.values.now 16 0 _ a.out.now
+          (gives_16_stocks a.t.now a.listing.kind a.listing.owner fires d.current a.values.now a.old.now held d.givable w.place w.more c.in_ok-read_values.ensures
+          (sym (c.stocks_fit.ensures _ am) ∙ c.if-not-stocks_fit.true))
+          refl,
+      tt,
+    )
 
 pub gain-requires : goal.gain-requires
 gain-requires c = (c.requires.0, omega (arith, edges_most c.args.t.now c.requires.0, c.requires.1.tokens-long))
@@ -58,15 +63,17 @@ returns-then-not-gain c =
     let held : Held = held_of a.from.now a.kept.now a.tokens.now in
     let fires : ℕ → Bool = fires_as a.t.now a.firing in
     let w = c.read_values.new in
-    let q = c.if-not-gain.true in
-    λ d.
-    let am = amounts a.t.now a.listing.kind a.listing.owner fires d.current a.values.now a.old.now held d.givable w.place w.more c.in_ok-read_values.ensures in
-    let fit = sym (c.stocks_fit.ensures _ am) ∙ c.if-not-stocks_fit.false in
-    let z = c.gain.ensures d.current.tokens (record { counts = d.givable.held.counts; none = d.givable.no_count }) in
-    refused-reply d fires a.values.now 16 0 _ a.out.now
-    (gives_16_counts a.t.now a.listing.kind a.listing.owner fires d.current a.values.now a.old.now held d.givable w.place w.more c.in_ok-read_values.ensures fit
-    c.gain.new.tokens (sym q ∙ z.0, λ r. z.1 (q ∙ r)))
-    refl
+    let q = c.if-not-gain.true in (
+      λ d.
+          let am = amounts a.t.now a.listing.kind a.listing.owner fires d.current a.values.now a.old.now held d.givable w.place w.more c.in_ok-read_values.ensures in
+          let fit = sym (c.stocks_fit.ensures _ am) ∙ c.if-not-stocks_fit.false in
+          let z = c.gain.ensures d.current.tokens (record { counts = d.givable.held.counts; none = d.givable.no_count }) in
+          refused-reply d fires a.values.now 16 0 _ a.out.now
+          (gives_16_counts a.t.now a.listing.kind a.listing.owner fires d.current a.values.now a.old.now held d.givable w.place w.more c.in_ok-read_values.ensures fit
+          c.gain.new.tokens (sym q ∙ z.0, λ r. z.1 (q ∙ r)))
+          refl,
+      tt,
+    )
 
 -- the marking that is written
 module _ (c : Else-not-gain) where
@@ -108,4 +115,4 @@ pub returns : goal.returns
 returns c =
     let g = (goal.at.returns c).Else-not-gain in
     let r = c.reply in
-    λ d. full-reply d (fires g) c.args.values.now _ (told g d) _ c.args.out.now r.new.out r.ensures
+    (λ d. full-reply d (fires g) c.args.values.now _ (told g d) _ c.args.out.now r.new.out r.ensures.0, r.ensures.1)

@@ -22,22 +22,27 @@ pub returns-in_err-ended : goal.returns-in_err-ended
 returns-in_err-ended c = let a = c.args in
     let w = c.read.new in
     let p = err_from_is_err_and c.from_residual.result c.from_residual.ensures.1 in
-    rw (p.1, p.2) (record {
-      answer = _;
-      allowed = sym (finish_5 a.t.now a.b.now a.action a.values.now c.requires w.from w.kept w.tokens c.read.result
-          c.read.ensures c.in_err-ended.field-0.0 c.in_err-ended.was);
-      reply = (refl, refl);
-    })
+    rw (p.1, p.2) (
+      record {
+        answer = _;
+        allowed = sym (finish_5 a.t.now a.b.now a.action a.values.now c.requires w.from w.kept w.tokens c.read.result
+            c.read.ensures c.in_err-ended.field-0.0 c.in_err-ended.was);
+        reply = (refl, refl);
+      },
+      tt,
+    )
 
 pub returns-then-ended : goal.returns-then-ended
 returns-then-ended c = let a = c.args in
     let w = c.read.new in
-    let e : c.read.result ≡ Ok true = c.in_ok-ended.was ∙ ap Ok c.if-ended.true in
-    record {
-      answer = _;
-      allowed = sym (finish_6 a.t.now a.b.now a.action a.values.now c.requires w.from w.kept w.tokens c.read.result c.read.ensures e);
-      reply = (refl, refl);
-    }
+    let e : c.read.result ≡ Ok true = c.in_ok-ended.was ∙ ap Ok c.if-ended.true in (
+      record {
+        answer = _;
+        allowed = sym (finish_6 a.t.now a.b.now a.action a.values.now c.requires w.from w.kept w.tokens c.read.result c.read.ensures e);
+        reply = (refl, refl);
+      },
+      tt,
+    )
 
 -- the marking, which is live
 module _ (c : Else-ended) where
@@ -60,11 +65,14 @@ returns-in_err-running c = let a = c.args in
     let l = its-marking (goal.at.returns-in_err-running c).Else-ended in
     let r = c.from_residual-in_err-running in
     let p = err_from_is_err_and r.result r.ensures.1 in
-    rw (p.1, p.2) (record {
-      answer = _;
-      allowed = sym (finish_14 a.t.now a.b.now a.action a.values.now c.requires l c.wide-a.ensures.0 _ _ (c.in_err-running.ensures l.current l.held.running));
-      reply = (refl, refl);
-    })
+    rw (p.1, p.2) (
+      record {
+        answer = _;
+        allowed = sym (finish_14 a.t.now a.b.now a.action a.values.now c.requires l c.wide-a.ensures.0 _ _ (c.in_err-running.ensures l.current l.held.running));
+        reply = (refl, refl);
+      },
+      tt,
+    )
 
 -- in which the action runs
 module _ (c : In_ok-running) where
@@ -82,6 +90,8 @@ pub returns : goal.returns
 returns c =
     let a = c.args in
     let l = its-marking (goal.at.returns c).Else-ended in
-    let d = c.conclude in
-    finish-leaves a.t.now a.b.now a.action a.values.now c.requires l c.wide-a.ensures.0 (runs (goal.at.returns c).In_ok-running l) _ a.out.now
-    d.new.out (d.ensures l)
+    let d = c.conclude in (
+      finish-leaves a.t.now a.b.now a.action a.values.now c.requires l c.wide-a.ensures.0 (runs (goal.at.returns c).In_ok-running l) _ a.out.now
+          d.new.out (d.ensures.0 l),
+      d.ensures.1,
+    )

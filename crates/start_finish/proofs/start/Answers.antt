@@ -9,4 +9,4 @@ deliver-requires c = (c.requires, nothing_lengths, start_ready c.args.t.now c.ar
 pub returns : goal.returns
 returns c = let a = c.args in
     let d = c.deliver in
-    start-leaves a.t.now a.values.now a.table c.requires _ a.out.now d.new.out d.ensures
+    (start-leaves a.t.now a.values.now a.table c.requires _ a.out.now d.new.out d.ensures.0, d.ensures.1)

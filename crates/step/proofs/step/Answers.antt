@@ -67,15 +67,18 @@ module _ (c : After-close-state) where
 pub returns-in_err-c : goal.returns-in_err-c
 returns-in_err-c c = let a = c.args in
     let p = err_from_is_err_and c.from_residual.result c.from_residual.ensures.1 in
-    rw (p.1, p.2) (λ s. chosen_9 a.t.now s.on a.ends.count s.stands.seated.number a.choice.now _ _ _ a.out.now c.in_err-c.ensures refl)
+    rw (p.1, p.2) (λ s. chosen_9 a.t.now s.on a.ends.count s.stands.seated.number a.choice.now _ _ _ a.out.now c.in_err-c.ensures refl, tt)
 
 pub returns-in_err-judge : goal.returns-in_err-judge
 returns-in_err-judge c =
     let a = c.args in
     let r = c.from_residual-in_err-judge in
     let p = err_from_is_err_and r.result r.ensures.1 in
-    rw (p.1, p.2) (λ s. settled-reply a.t.now s.on a.ends.count s.stands.seated.number a.choice.now c.in_ok-c.c c.in_ok-c.ensures _ a.out.now _
-    (settled-refused s c.in_ok-c.c c.judge.result c.judge.ensures _ _ a.out.now c.in_err-judge.was refl))
+    rw (p.1, p.2) (
+      λ s. settled-reply a.t.now s.on a.ends.count s.stands.seated.number a.choice.now c.in_ok-c.c c.in_ok-c.ensures _ a.out.now _
+          (settled-refused s c.in_ok-c.c c.judge.result c.judge.ensures _ _ a.out.now c.in_err-judge.was refl),
+      tt,
+    )
 
 pub bringing-bringing-requires : goal.bringing-bringing-requires
 bringing-bringing-requires c = let p = c.requires in
@@ -137,7 +140,9 @@ pub returns : goal.returns
 returns c =
     let k = (goal.at.returns c).After-close-state in
     let r = c.reply in
-    let a = c.args in
-    λ s. settled-reply a.t.now s.on a.ends.count s.stands.seated.number a.choice.now c.in_ok-c.c c.in_ok-c.ensures _ a.out.now _
-    (settled_moves s c.in_ok-c.c c.judge.result c.judge.ensures c.in_ok-judge.was _ a.out.now _
-    (r.ensures (next s.on c.in_ok-c.c) (next-is-held k s) (state-is k s)))
+    let a = c.args in (
+      λ s. settled-reply a.t.now s.on a.ends.count s.stands.seated.number a.choice.now c.in_ok-c.c c.in_ok-c.ensures _ a.out.now _
+          (settled_moves s c.in_ok-c.c c.judge.result c.judge.ensures c.in_ok-judge.was _ a.out.now _
+          (r.ensures.0 (next s.on c.in_ok-c.c) (next-is-held k s) (state-is k s))),
+      r.ensures.1,
+    )

@@ -9,4 +9,4 @@ use Rattle.why.proofs.tell.Goals as goal
 pub returns : goal.returns
 returns c = let a = c.args in
     let some-room = eqb-false (length a.out.now) 0 (sym c.is_empty.ensures ∙ c.if-is_empty.false) in
-    told-one a.out.now a.byte (omega arith)
+    (told-one a.out.now a.byte (omega arith), omega arith)

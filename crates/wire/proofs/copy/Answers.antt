@@ -1,14 +1,16 @@
--- `copy` writes over a part of one list what a part of another holds. Assumes nothing.
+-- `copy` stores a part of one list in another. The invariant: the bytes passed are stored. Assumes nothing.
 use mathlib.Core.Path.{◌≡◌}
-use Prim.Native.Nat.{◌+◌, ◌-◌}
 use native.Mathlib.Omega.{arith}
-use Rattle.wire.proofs.Laws.{put_mid_sets}
-use Rattle.wire.proofs.Runs.{part_length}
+use lib.ListN.{length-set}
+use Rattle.wire.proofs.Runs.{copy_more}
 use Rattle.wire.proofs.copy.Goals as goal
 
+pub loop-k-preserved : goal.loop-k-preserved
+loop-k-preserved c = let a = c.args in
+    let l = c.loop-k in
+    (simp length-set (omega arith), rw l.invariant.1 (copy_more a.out.now a.src.now a.to a.from l.k (omega arith)))
+
 pub returns : goal.returns
-returns c =
-    let a = c.args in
-    let n : a.from + a.n - a.from ≡ a.n = omega arith in
-    let long = part_length a.src.now a.from a.n c.requires.0 in
-    put_mid_sets _ _ _ _ _ (rw n at c.copy_from_slice.ensures.after) (omega arith) (omega arith)
+returns c = let l = c.loop-k in
+    let e : l.k ≡ c.args.n = omega arith in
+    rw (← e) l.invariant.1

@@ -15,7 +15,7 @@ use Rattle.board.specs.Reading.{EndsLent, EndsRoom, ends_lent, Laid}
 use Rattle.board.proofs.BoardLaws.{laid_refusal, laid_board, laid_seatable}
 use Rattle.board.proofs.Ladder.{fine-long}
 use Rattle.keshmirun.specs.declared.asking.Request.TheVariants.{Choice}
-use Rattle.keshmirun.proofs.Requests.{asked_err, sheet-leaves, laid_shows, pick_leaves, why_leaves, step-leaves, count-leaves}
+use Rattle.keshmirun.proofs.Requests.{asked_err, sheet-leaves, laid_shows, pick_leaves, why_leaves, step-leaves, count-leaves, counts_apart}
 use Rattle.keshmirun.proofs.Laying.{laid_standing, standing_board}
 use Rattle.keshmirun.proofs.asking.respond.Goals.{In_ok-board}
 use Rattle.keshmirun.proofs.asking.respond.Goals as goal
@@ -67,9 +67,12 @@ returns-in_err-board c =
     let w = terms a.g.now a.bounds.now in
     let l = c.lay.new in
     let p = err_from_is_err_and c.from_residual.result c.from_residual.ensures.1 in
-    rw (p.1, p.2) (asked_err a.t.now a.b.now w a.choice.now a.request _ a.out.now
-    (laid_refusal c.is_shown.result a.t.now a.b.now w (fields_held a.fields) l.rows (ends_lent l.ends l.order l.lens l.cells) _
-    (c.lay.ensures c.requires.1 c.requires.2) _ c.in_err-board.was))
+    rw (p.1, p.2) (
+      asked_err a.t.now a.b.now w a.choice.now a.request _ a.out.now
+          (laid_refusal c.is_shown.result a.t.now a.b.now w (fields_held a.fields) l.rows (ends_lent l.ends l.order l.lens l.cells) _
+          (c.lay.ensures c.requires.1 c.requires.2) _ c.in_err-board.was),
+      tt,
+    )
 
 pub show-requires : goal.show-requires
 show-requires c =
@@ -81,7 +84,7 @@ returns-in-Sheet c =
     let g = (goal.at.returns-in-Sheet c).In_ok-board in
     let a = c.args in
     let r = c.show in
-    sheet-leaves (laid_then g) (room-then g) a.request c.is_shown.ensures c.in-Sheet.is a.choice.now _ a.out.now _ r.ensures
+    (sheet-leaves (laid_then g) (room-then g) a.request c.is_shown.ensures c.in-Sheet.is a.choice.now _ a.out.now _ r.ensures.0, r.ensures.1)
 
 pub seat-ends-requires : goal.seat-ends-requires
 seat-ends-requires c =
@@ -105,9 +108,11 @@ returns-in-Pick c =
     let d = laid_standing (laid_then g) (bytes-then g) o.result o.ensures.0 e.result e.ensures.1 e.ensures.2 in
     let b = standing_board (laid_then g) (bytes-then g) o.result o.ensures.0 e.result e.ensures.1 e.ensures.2 in
     let a = c.args in
-    let r = c.pick in
-    pick_leaves a.t.now a.b.now (terms a.g.now a.bounds.now) a.choice.now d b a.request _ a.out.now _ _
-    (c.in-Choice.is ∙ ap Choice c.in-Pick.is) (r.ensures d.on d.stands)
+    let r = c.pick in (
+      pick_leaves a.t.now a.b.now (terms a.g.now a.bounds.now) a.choice.now d b a.request _ a.out.now _ _
+          (c.in-Choice.is ∙ ap Choice c.in-Pick.is) (r.ensures.0 d.on d.stands),
+      r.ensures.1,
+    )
 
 pub returns-in-Why : goal.returns-in-Why
 returns-in-Why c =
@@ -117,9 +122,11 @@ returns-in-Why c =
     let d = laid_standing (laid_then g) (bytes-then g) o.result o.ensures.0 e.result e.ensures.1 e.ensures.2 in
     let b = standing_board (laid_then g) (bytes-then g) o.result o.ensures.0 e.result e.ensures.1 e.ensures.2 in
     let a = c.args in
-    let r = c.why in
-    why_leaves a.t.now a.b.now (terms a.g.now a.bounds.now) a.choice.now d b a.request _ a.out.now _ _
-    (c.in-Choice.is ∙ ap Choice c.in-Why.is) (r.ensures d.on d.stands)
+    let r = c.why in (
+      why_leaves a.t.now a.b.now (terms a.g.now a.bounds.now) a.choice.now d b a.request _ a.out.now _ _
+          (c.in-Choice.is ∙ ap Choice c.in-Why.is) (r.ensures.0 d.on d.stands),
+      r.ensures.1,
+    )
 
 pub step-requires : goal.step-requires
 step-requires c =
@@ -137,9 +144,11 @@ returns-in-Step c =
     let d = laid_standing (laid_then g) (bytes-then g) o.result o.ensures.0 e.result e.ensures.1 e.ensures.2 in
     let b = standing_board (laid_then g) (bytes-then g) o.result o.ensures.0 e.result e.ensures.1 e.ensures.2 in
     let a = c.args in
-    let r = c.step in
-    step-leaves a.t.now a.b.now (terms a.g.now a.bounds.now) a.choice.now d b a.request _ a.out.now _
-    (c.in-Choice.is ∙ ap Choice c.in-Step.is) (r.ensures d)
+    let r = c.step in (
+      step-leaves a.t.now a.b.now (terms a.g.now a.bounds.now) a.choice.now d b a.request _ a.out.now _
+          (c.in-Choice.is ∙ ap Choice c.in-Step.is) (r.ensures.0 d),
+      r.ensures.1,
+    )
 
 pub returns-in-Count : goal.returns-in-Count
 returns-in-Count c =
@@ -149,6 +158,8 @@ returns-in-Count c =
     let d = laid_standing (laid_then g) (bytes-then g) o.result o.ensures.0 e.result e.ensures.1 e.ensures.2 in
     let b = standing_board (laid_then g) (bytes-then g) o.result o.ensures.0 e.result e.ensures.1 e.ensures.2 in
     let a = c.args in
-    let r = c.states in
-    count-leaves a.t.now a.b.now (terms a.g.now a.bounds.now) a.choice.now d b a.request _ a.out.now a.out.now _ _
-    (c.in-Choice.is ∙ ap Choice c.in-Count.is) (omega (arith, r.ensures.0), omega (arith, r.ensures.1))
+    let r = c.states in (
+      count-leaves a.t.now a.b.now (terms a.g.now a.bounds.now) a.choice.now d b a.request _ a.out.now a.out.now _ _
+          (c.in-Choice.is ∙ ap Choice c.in-Count.is) (omega (arith, r.ensures.0), omega (arith, r.ensures.1)),
+      counts_apart e.result.count r.result e.ensures.0.few r.ensures.1,
+    )
